@@ -178,7 +178,7 @@ def build():
     run(c + ["-o", BENCH, source % "bench.c", source % "lean.c", archive] + rust)
     run(c + ["-o", LEAN, source % "program.c", source % "lean.c"])
     run(c + ["-DREPORT=rust_report", "-o", LEAN + "-rust", source % "program.c", source % "lean.c"] + rust)
-    run(["rt", "check", "analyse"], cwd=ROOT)
+    run(["tools/build", "analyse"], cwd=ROOT)
 
 
 def tree_file(name, table):

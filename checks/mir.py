@@ -28,9 +28,9 @@ def listed(terms):
 
 
 def named(symbol):
-    """A function's name; of a method of the kit's slices the type and the method."""
+    """A function's name; of a method of the kit the type and the method."""
     symbol = re.sub(r"[\s()]", "_", symbol)
-    return '"%s"' % re.sub(r"^(?:core|std\w*)::.*::(slice)\+\w+::(\w+)$", r"\1::\2", symbol)
+    return '"%s"' % re.sub(r"^(?:core|std\w*)::.*?(\w+)(?:\+\w+)?::(\w+)$", r"\1::\2", symbol)
 
 
 # ---------------------------------------------------------------- built libraries
@@ -42,11 +42,13 @@ def type_of(ty):
     if kind == "Int":
         return ["tyInt", [str(parts)]]
     if kind == "Ref":
-        return ["tyRef", type_of(parts[2])]
+        return ["tyMut" if parts[1] == "Mut" else "tyRef", type_of(parts[2])]
     if kind == "Array":
         return ["tyArray", type_of(parts[0]), ["length", [str(next(iter(parts[1].values())))]]]
     if kind == "Named":
         return ["tyNamed", ["name", ['"%s"' % parts[0]["name"]]]] + [type_of(part) for part in parts[1]]
+    if kind == "Param":
+        return ["tyParam", ["index", [str(parts)]]]
     if kind in ("Struct", "Tuple"):
         return ["ty" + kind] + [type_of(part) for part in parts[-1]]
     if kind == "Enum":
@@ -55,8 +57,13 @@ def type_of(ty):
 
 
 def place_of(place):
-    steps = [[small(step if isinstance(step, str) else next(iter(step)))] for step in place["steps"]]
-    return ["place", [str(place["local"])], listed(steps)]
+    return ["place", [str(place["local"])], listed(list(map(step_of, place["steps"])))]
+
+
+def step_of(step):
+    """A step of a place; that to a field has its number."""
+    kind, parts = (step, None) if isinstance(step, str) else next(iter(step.items()))
+    return ["field", [str(parts)]] if kind == "Field" else [small(kind)]
 
 
 def value_of(value):
@@ -130,7 +137,7 @@ def declared(functions):
         for ty in function["types"]:
             (kind, parts), = ty["shape"].items()
             fields = parts if kind == "Fields" else [part for variant in parts for part in variant]
-            known[ty["name"]] = ["pair", ['"%s"' % ty["name"]], ["fields"] + [type_of(field) for field in fields]]
+            known[ty["name"]] = ["pair", ['"%s"' % ty["name"]], [small(kind)] + [type_of(field) for field in fields]]
     return list(known.values())
 
 
@@ -150,7 +157,7 @@ class Text:
         with open(path, encoding="utf-8") as f:
             text = f.read()
         self.symbols = {}
-        use = r"^use Rattle\.(\w+)\.(?:proofs|specs\.contracts)\.(\S+)\.(Symbol|Key)(?: as (\S+))?$"
+        use = r"^use Rattle\.(?:\w+\.below\.)?(\w+)\.(?:proofs|specs\.contracts)\.(\S+)\.(Symbol|Key)(?: as (\S+))?$"
         for crate, function, module, alias in re.findall(use, text, re.M):
             self.symbols[(alias or module) + ".name"] = "::".join([crate, *function.split(".")])
         self.terms = {}
@@ -214,13 +221,15 @@ def text_type(term):
     if kind == "ty_int":
         return ["tyInt", [head(parts[0])[1:]]]
     if kind == "ty_ref":
-        return ["tyRef", text_type(parts[2])]
+        return ["tyMut" if head(parts[1]) == "mut" else "tyRef", text_type(parts[2])]
     if kind == "ty_array":
         return ["tyArray", text_type(parts[0]), ["length", [str(number(parts[1]))]]]
     if kind == "ty_struct":
         return ["tyStruct"] + list(text_types(parts[1]))
     if kind == "ty_named":
         return ["tyNamed", ["name", ['"%s"' % symbol(parts[0])]]] + list(text_types(parts[1]))
+    if kind == "ty_param":
+        return ["tyParam", ["index", [str(number(parts[0]))]]]
     if kind == "ty_enum":
         return ["tyEnum"] + [t for variant in text_lists(parts[1]) for t in text_types(variant)]
     return [small(kind)]
@@ -247,7 +256,11 @@ def symbol(term):
 
 def text_place(term):
     local, steps = rest(term)
-    return ["place", [str(number(local))], listed([[small(head(step))] for step in items(steps)])]
+    return ["place", [str(number(local))], listed(list(map(text_step, items(steps))))]
+
+
+def text_step(step):
+    return ["field", [str(number(rest(step)[0]))]] if head(step) == "field" else [small(head(step))]
 
 
 def text_value(term):

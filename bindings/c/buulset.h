@@ -17,10 +17,10 @@
  * STACK, in thousands of bytes, the most over small, deep and large trees (bindings/c/stack.c measures it). Give a
  * thread 256: no call uses the heap instead, and none checks whether its stack suffices.
  *
- *     report       112    mtdf         53    capitals       25    shorter       19
+ *     report       112    mtdf         53    capitals       25    shorter       17
  *     line          83    least_value  54    convert        25    least_leaves   3
  *     sss           67    alphabeta    50    read           25    fill           2
- *     plain         50    mtd          50    verify         19    every other call under 1
+ *     plain         50    mtd          50    verify         17    every other call under 1
  */
 #ifndef BUULSET_H
 #define BUULSET_H

@@ -1,29 +1,31 @@
 -- The pass over the root's children: beta stays the greatest score, alpha ends as the value, and the last child that
 -- raised it is the root move.
 use Rattle.prelude.proofs.{ℕ, suc, ◌+◌, ◌-◌, ◌≤◌, ◌<◌, max, arith, ◌≡◌, refl, sym, ap, ap₂, ◌∙◌, Bool, true, false}
-use Rattle.prelude.proofs.{cond, List, ltb, length, ltb-true, ltb-false, lt-ltb, le-ltb}
-use Rattle.gametree.specs.{Tree, least, greatest, minimax, number, Score, full_window, root_move_of}
+use Rattle.prelude.proofs.{cond, List, ltb, ltb-true, ltb-false, lt-ltb, le-ltb, lt-leb}
+use Rattle.gametree.specs.{Tree, least, greatest, minimax, number, Score, root_move_of}
 use Rattle.gametree_theory.proofs.Minimax.Bounds.{minimax-score}
 use Rattle.gametree_theory.proofs.Alphabeta.Window.{alpha_beta-value}
 use Rattle.gametree_theory.proofs.Alphabeta.RootMove.{raiser, raiser-move}
 use Rattle.table.specs.{frames, first_child, child_count, next, root_position, children_from, tree_at, tree, valuation}
-use Rattle.table.specs.{WellFormed, ChildOf}
+use Rattle.table.specs.{WellFormed}
 use Rattle.table.proofs.Next.{child-within}
 use Rattle.table.proofs.Positions.{position-root}
 use Rattle.table.proofs.Proper.{every-leaf, leaf-scored, tree-proper}
 use Rattle.table.proofs.Trees.{tree-inner, tree-number}
-use Rattle.certificate_bounds.specs.{Progress, progress, Listable}
+use Rattle.certificate_bounds.specs.declared.Evaluations.{Evaluations}
+use Rattle.certificate_bounds.specs.{Listable, progress_of}
 use Rattle.certificate_write.specs.{Searchable}
-use Rattle.certificate_write.proofs.Unmarked.{all-wait}
-use Rattle.alphabeta_visits.specs.declared.Visited.{Visited}
-use Rattle.alphabeta_visits.proofs.Evaluated.{visit-waits}
-use Rattle.alphabeta_visits.proofs.Pass.{Gives, pass-ends, pass-goes-on}
-use Rattle.alphabeta_visits.proofs.Visits.{VisitLoop, Visits, inner-remainder}
+use Rattle.alphabeta_visits.specs.declared.Window.{Window}
+use Rattle.alphabeta_visits.proofs.Visits.{Visit, VisitLoop, loop-starts, loop-ends, loop-goes-on}
+
+-- the window at the root when alpha is a
+abbrev pub root_window : (a : ℕ) → Window
+root_window a = record { alpha = a; beta = greatest }
 
 -- at the head of the loop over the root's children up to `end`: child k is next, alpha is a and m the last child that
 -- raised it; the children that are left end with the root move
-pub record RootTurn (t : List ℕ) (p₀ : Progress) (end : ℕ) (p : Progress) (a m k : ℕ) : Type 0 where
-  pub turn : VisitLoop t 0 root_position least greatest p₀ 1 end p a greatest k
+pub record RootTurn (t : List ℕ) (e₀ : Evaluations) (end : ℕ) (e : Evaluations) (a m k : ℕ) : Type 0 where
+  pub turn : VisitLoop t 0 root_position (root_window least) e₀ end e (root_window a) k
   pub below : a < greatest
   pub move : raiser (valuation t) a m (children_from (tree_at t) k (end - k)) ≡ root_move_of (valuation t) (tree t)
 
@@ -57,102 +59,63 @@ module _ (t : List ℕ) (wf : WellFormed t) where
   scored k h =
       minimax-score (valuation t) (tree_at t k) (every-leaf t wf (λ i. Score (valuation t i)) (leaf-scored t wf) k h)
 
-  -- before the first child
-  pub root-start : (e o : List ℕ) (end : ℕ) → Searchable t e 0 root_position → Listable t (progress 0 e o)
-      → end ≡ child_count t 0 → 0 < end → RootTurn t (progress 0 e o) end (progress 0 e o) least 0 1
-  root-start e o end r l c h =
-      let n : child_count t 0 ≡ suc (end - 1) = omega arith in
-      let first = root-first (omega arith) in
-      let side = ap (λ p. p.side) (position-root t) in
-      let is = tree-inner t wf 0 (end - 1) wf.non_empty n in
-      record {
-        turn =
-            record {
-              from = omega arith;
-              to = omega arith;
-              marks_kept = refl;
-              order_kept = refl;
-              listable = l;
-              unvisited = all-wait t wf 0 wf.non_empty e 1 r.unmarked;
-              remainder =
-                  inner-remainder t wf 0 wf.non_empty least greatest (progress 0 e o) root_position 1 end
-                  r.positioned (omega arith)
-                  (sym first) (omega arith);
-            };
-        below = omega arith;
-        move =
-            rw (is, side, first)
-            (raiser-move (valuation t) 0 (children_from (tree_at t) 1 (end - 1))
-            (rw (is, side, first) at (tree-proper t wf).scored));
-      }
+  module _ {e₀ : Evaluations} (r : Searchable t e₀.marks.now 0 root_position) {end : ℕ} (count : end ≡ child_count t 0)
+    where
+      -- before the first child
+      pub root-starts : Listable t (progress_of e₀) → 0 < end → RootTurn t e₀ end e₀ least 0 1
+      root-starts l h =
+          let n : child_count t 0 ≡ suc (end - 1) = omega arith in
+          let first = root-first (omega arith) in
+          let side = ap (λ p. p.side) (position-root t) in
+          let is = tree-inner t wf 0 (end - 1) wf.non_empty n in
+          record {
+            turn = loop-starts r 1 end l (omega arith) (sym first) (omega arith);
+            below = omega arith;
+            move =
+                rw (is, side, first)
+                (raiser-move (valuation t) 0 (children_from (tree_at t) 1 (end - 1))
+                (rw (is, side, first) at (tree-proper t wf).scored));
+          }
 
-  module _ {p₀ p : Progress} {end a m k : ℕ} (count : end ≡ child_count t 0) (u : RootTurn t p₀ end p a m k) where
-    -- the next child
-    pub root-child : ChildOf t 0 k
-    root-child =
-        let h = u.turn.from in
-        let i = u.turn.to in
-        let first = root-first (omega arith) in
-        record { from = omega arith; to = omega arith }
+      module _ {e : Evaluations} {a m k : ℕ} (u : RootTurn t e₀ end e a m k) {f : Evaluations} {x : ℕ}
+          (v : Visit t k (root_window a) e f x) where
+        value : ℕ
+        value = minimax (valuation t) (tree_at t k)
 
-    module _ {e o : List ℕ} {x : Visited} (v : Visits t k a greatest p e o x) where
-      value : ℕ
-      value = minimax (valuation t) (tree_at t k)
-
-      -- its visit gives alpha as it is then
-      score : x.score ≡ max a value
-      unfolding value
-      score =
-          let s = scored k (child-within t wf wf.non_empty root-child) in
-          let b = u.below in
-          omega (arith, v.gives.0, alpha_beta-value (valuation t) a greatest b (tree_at t k))
-
-      -- and the last child that raised it
-      module _ (m' : ℕ) (moved : m' ≡ cond (ltb a x.score) k m) where
-        raised : m' ≡ cond (ltb a value) (number (tree_at t k)) m
-        raised =
-            moved ∙ ap₂ (λ b n. cond b n m) (ap (ltb a) score ∙ above_same a value) (sym (tree-number t k))
-
-        -- after the last child the whole is given
-        pub root-last : k ≡ end
-            → Gives (full_window (valuation t) (tree t)) p₀ (progress x.leaves e o) x.score
-            × (m' ≡ root_move_of (valuation t) (tree t))
+        -- the visit of the next child gives alpha as it is then
+        score : x ≡ max a value
         unfolding value
-        root-last h = (
-          pass-ends _ _ _ _ _ _ _ u.turn.remainder v.gives h,
-          raised ∙ sym (raiser-last (valuation t) (tree_at t) a m k end h) ∙ u.move,
-        )
-
-        -- after another one the next is owed
-        pub root-next : k < end → length e ≡ length p₀.marks → length o ≡ length p₀.order
-            → RootTurn t p₀ end (progress x.leaves e o) x.score m' (k + 1)
-        unfolding value
-        root-next h i j =
-            let s = scored k (child-within t wf wf.non_empty root-child) in
+        score =
+            let s = scored k (child-within t wf wf.non_empty u.turn.child) in
             let b = u.below in
-            let y = score in
-            let l = u.turn.listable in
-            record {
-              turn =
-                  record {
-                    from = omega (arith, u.turn.from);
-                    to = omega arith;
-                    marks_kept = i;
-                    order_kept = j;
-                    listable =
-                        record {
-                          at_most = l.at_most;
-                          room = omega (arith, l.room, u.turn.order_kept);
-                          counted = v.counted;
-                        };
-                    unvisited =
-                        visit-waits t wf 0 wf.non_empty _ _ _ _ _ _ root-child u.turn.unvisited
-                        (ap (λ q. q.marks) v.gives.1);
-                    remainder =
-                        pass-goes-on _ _ _ _ _ _ _ u.turn.remainder v.gives _ _ h (omega arith) refl
-                        (omega arith);
-                  };
-              below = omega arith;
-              move =
-                  rw (score, raised) (sym (raiser-more (valuation t) (tree_at t) a m k end h) ∙ u.move);
-            }
+            omega (arith, v.gives.0, alpha_beta-value (valuation t) a greatest b (tree_at t k))
+
+        -- and the last child that raised it
+        module _ (m' : ℕ) (moved : m' ≡ cond (ltb a x) k m) where
+          raised : m' ≡ cond (ltb a value) (number (tree_at t k)) m
+          raised =
+              moved ∙ ap₂ (λ b n. cond b n m) (ap (ltb a) score ∙ above_same a value) (sym (tree-number t k))
+
+          -- after the last child the whole is given
+          pub root-last : k ≡ end → Visit t 0 (root_window least) e₀ f x × (m' ≡ root_move_of (valuation t) (tree t))
+          unfolding value
+          root-last h =
+              (loop-ends r u.turn v h, raised ∙ sym (raiser-last (valuation t) (tree_at t) a m k end h) ∙ u.move)
+
+          -- after another one the next is owed
+          pub root-next : k < end → RootTurn t e₀ end f x m' (k + 1)
+          unfolding value
+          root-next h =
+              let s = scored k (child-within t wf wf.non_empty u.turn.child) in
+              let b = u.below in
+              let y = score in
+              let raise : x ≡ max a x = omega arith in
+              let first = root-first (omega arith) in
+              record {
+                turn =
+                    loop-goes-on r u.turn v {w' = root_window x} (raise, refl) h (omega arith)
+                    (lt-leb greatest x (omega arith));
+                below = omega arith;
+                move =
+                    rw (score, raised) (sym (raiser-more (valuation t) (tree_at t) a m k end h) ∙ u.move);
+              }

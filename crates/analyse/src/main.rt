@@ -1,7 +1,7 @@
 // The program: reads a tree file from standard input and writes its report to standard output.
 #![tactic(auto)]
 
-use input::{Input, LARGE};
+use input::LARGE;
 use std::io;
 use std::io::Write;
 
@@ -11,19 +11,13 @@ use std::io::Write;
 fn main(rt: HostRuntime) -> io::Result<()> {
     let mut file = [0u8; LARGE];
     match input::read_all(&mut rt.stdin(), &mut file) {
-        Input::Bytes(size) => print_report(&mut rt.stdout(), &file[..size]),
-        Input::Failed => print_failure(&mut rt.stderr()),
+        Ok(size) => print_report(&mut rt.stdout(), &file[..size]),
+        Err(_) => eprintln!(rt; "analyse: standard input cannot be read"),
     }
 }
 
 // The text of the file's report, as far as it goes.
 fn print_report<W: Write>(out: &mut W, file: &[u8]) -> io::Result<()> {
     let text = analysis::write(file);
-    let bytes = text.bytes;
-    let end = text.length;
-    out.write_all(&bytes[..end])
-}
-
-fn print_failure<W: Write>(out: &mut W) -> io::Result<()> {
-    out.write_all(b"analyse: standard input cannot be read\n")
+    out.write_all(text.as_bytes())
 }

@@ -1,5 +1,6 @@
 -- The steps of a call: SSS* finds the value and writes its certificate, whose principal variation is then given.
-use Rattle.prelude.proofs.{ℕ, ◌≤◌, arith, ◌≡◌, sym, ap, ap₂, ◌∙◌, List, [], ◌∷◌, ◌++◌, length, drop, replicate}
+use Rattle.table.specs.declared.Rejection.{Rejection}
+use Rattle.prelude.proofs.{ℕ, ◌≤◌, arith, ◌≡◌, sym, ap, ap₂, ◌∙◌, List, [], ◌∷◌, ◌++◌, length, drop, replicate, Result}
 use Rattle.prelude.proofs.{length-replicate}
 use Rattle.table.specs.{max_nodes, frames, Accepted, ◌leaving◌}
 use Rattle.table.proofs.Acceptance.{accepted-formed}
@@ -10,7 +11,6 @@ use Rattle.methods.specs.declared.Answer.{Answer}
 use Rattle.methods.specs.declared.Answer.TheVariants.{Found}
 use Rattle.methods.specs.{evaluated_by, Lent, lent, findings_by, answer_by, flags_left, search_outcome}
 use Rattle.methods.proofs.Rules.{enough, decides}
-use Rattle.variation.specs.declared.VariationAnswer.{VariationAnswer}
 use Rattle.variation.specs.{principal_outcome}
 use Rattle.variation.proofs.Given.{gives}
 use Rattle.variation.specs.declared.LineFound.{LineFound}
@@ -40,7 +40,7 @@ module _ (t : List ℕ) (accepted : Accepted t) where
 
   module _ (line : List ℕ) (long : frames t ≤ length line) where
     -- and the variation of that certificate is the line
-    pub find-gives : (a : Answer) (l : Lent) (p : VariationAnswer) (line' : List ℕ) (f : LineFound) (n : ℕ)
+    pub find-gives : (a : Answer) (l : Lent) (p : Result ℕ Rejection) (line' : List ℕ) (f : LineFound) (n : ℕ)
         → a leaving l ≡ search_outcome m t (lent zeros zeros zeros)
         → p leaving line' ≡ principal_outcome t l.flags line → n ≡ line_length p → f ≡ found_in a n
         → (f ≡ line_found t) × (line' ≡ best_line_of t ++ drop f.length line)

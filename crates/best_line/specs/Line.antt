@@ -1,5 +1,6 @@
 -- What the call gives: the minimax value, and the principal variation of the certificate that SSS* writes.
-use Rattle.std.specs.Prelude.{ℕ, List, [], ◌∷◌, ◌++◌, length, drop, replicate}
+use Rattle.table.specs.declared.Rejection.{Rejection}
+use Rattle.std.specs.Prelude.{ℕ, List, [], ◌∷◌, ◌++◌, length, drop, replicate, Result, Ok, Err}
 use Rattle.gametree.specs.Trees.{minimax}
 use Rattle.gametree.specs.Move.{root_move_of}
 use Rattle.table.specs.Frame.{max_nodes}
@@ -11,8 +12,6 @@ use Rattle.methods.specs.declared.Method.TheVariants.{Sss}
 use Rattle.methods.specs.Rules.{evaluated_by}
 use Rattle.variation.specs.Variation.{variation}
 use Rattle.variation.specs.declared.LineFound.{LineFound}
-use Rattle.variation.specs.declared.LineAnswer.{LineAnswer}
-use Rattle.variation.specs.declared.LineAnswer.TheVariants.{Found, Rejected}
 
 -- the certificate of a table that SSS* writes over zeros, with an allowance that no tree exceeds
 abbrev pub certificate_of : List ℕ → List ℕ
@@ -33,7 +32,7 @@ line_found t =
 
 -- the outcome of a call with the table t and a list: the line's nodes at the list's front, before what the list held
 -- past them; on a "no" to questions 1 to 10 the list as it was
-abbrev pub line_outcome : (t line : List ℕ) → Outcome LineAnswer (List ℕ)
+abbrev pub line_outcome : (t line : List ℕ) → Outcome (Result LineFound Rejection) (List ℕ)
 line_outcome t l =
-    unless (search_rejection t (length l ∷ [])) (λ r. Rejected r leaving l)
-    (Found (line_found t) leaving best_line_of t ++ drop (length (best_line_of t)) l)
+    unless (search_rejection t (length l ∷ [])) (λ r. Err r leaving l)
+    (Ok (line_found t) leaving best_line_of t ++ drop (length (best_line_of t)) l)

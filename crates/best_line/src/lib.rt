@@ -10,19 +10,17 @@ ghost use Rattle.best_line.specs.Engine.Parts.{nothing_in, found_in, line_length
 
 use certificate_write::ask;
 use search::{Answer, Method, search};
-use table::{Checked, MAX_NODES};
-pub use variation::{LineAnswer, LineFound};
-use variation::{VariationAnswer, principal};
+use table::{MAX_NODES, Rejection};
+pub use variation::LineFound;
+use variation::principal;
 
 // Questions 1 to 9 of the table and 10 of the lent list, then the value, and the nodes of the best line of play, the
 // root first, in the first entries of the list; after a rejection the list is as it was.
-pub fn line(table: &[u8], line: &mut [u16]) -> LineAnswer
+pub fn line(table: &[u8], line: &mut [u16]) -> Result<LineFound, Rejection>
     ensures { result leaving line.new ≡ line_outcome table.now line.old }
 {
-    match ask(table, line.len()) {
-        Checked::Nodes(_) => LineAnswer::Found(find(table, line)),
-        Checked::Rejected(rejection) => LineAnswer::Rejected(rejection),
-    }
+    ask(table, line.len())?;
+    Ok(find(table, line))
 }
 
 // The line of an accepted table, into a list with an entry per node. No tree has more leaves than SSS* is allowed.
@@ -73,11 +71,8 @@ fn nothing(length: usize) -> LineFound
 }
 
 // The length of a line that was given; 0 where none was.
-fn line_length(answer: VariationAnswer) -> usize
+fn line_length(answer: Result<usize, Rejection>) -> usize
     ensures { result ≡ line_length answer }
 {
-    match answer {
-        VariationAnswer::Length(length) => length,
-        VariationAnswer::Rejected(_) => 0,
-    }
+    answer.unwrap_or(0)
 }

@@ -25,18 +25,15 @@ ghost use Rattle.worst_fill.specs.Outcome.{fill_outcome};
 ghost use Rattle.least_count.specs.Answer.{least_answer};
 ghost use Rattle.analysis.specs.Report.{report};
 ghost use Rattle.text.specs.Text.{refused_line, text_of};
-ghost use Rattle.buulset_flat.specs.Flat.{flat_checked, flat_written, flat_printed, flat_answer, flat_plain};
-ghost use Rattle.buulset_flat.specs.Flat.{flat_filled, flat_verdict, flat_least_value, flat_least, flat_choice};
-ghost use Rattle.buulset_flat.specs.Flat.{flat_line, flat_text, flat_best_line};
+ghost use Rattle.buulset_answers.specs.Answers.{counted, valued, lined, moved};
+ghost use Rattle.buulset_flat.specs.Flat.{flat, flat_printed, flat_answer, flat_choice};
+ghost use Rattle.buulset_flat.specs.Flat.{flat_line, flat_text};
 ghost use Rattle.buulset.specs.Version.{version};
 ghost use Rattle.buulset.specs.Children.{flat_children, part_of};
 ghost use Rattle.buulset.specs.Outcome.{flat_by};
 
-use buulset_answers::{Answer, Children, Choice, Line, Text, no_children};
-use buulset_flat::{
-    flat_answer, flat_best_line, flat_checked, flat_choice, flat_filled, flat_least,
-    flat_least_value, flat_line, flat_plain, flat_printed, flat_text, flat_verdict, flat_written,
-};
+use buulset_answers::{Answer, Children, Choice, Line, Text, counted, valued};
+use buulset_flat::{flat_answer, flat_choice, flat_line, flat_printed, flat_text};
 use search::Method;
 use table::{FRAME_SIZE, Rejection};
 
@@ -53,9 +50,9 @@ pub fn buulset_version() -> u32
 // `file::read`: the file's frames in the table; `count` is the number of nodes.
 pub fn buulset_read(file: &[u8], table: &mut [u8]) -> Answer
     ensures { result leaving table.new
-        ≡ flat_by flat_checked (read_outcome file.now table.old) }
+        ≡ flat_by (flat counted) (read_outcome file.now table.old) }
 {
-    flat_checked(file::read(file, table))
+    file::read(file, table).map_or_else(Answer::from, counted)
 }
 
 // `file::Cursor::read_line`: one line of a file, from a position on.
@@ -76,17 +73,17 @@ pub fn buulset_digit(byte: u8) -> u8
 // `file::write`: the table's file in the buffer; `count` is its length in bytes.
 pub fn buulset_write(table: &[u8], file: &mut [u8]) -> Answer
     ensures { result leaving file.new
-        ≡ flat_by flat_written (write_outcome table.now file.old) }
+        ≡ flat_by (flat counted) (write_outcome table.now file.old) }
 {
-    flat_written(file::write(table, file))
+    file::write(table, file).map_or_else(Answer::from, counted)
 }
 
 // `file_convert::convert`: the file with capitals in the buffer; `count` is its length in bytes.
 pub fn buulset_convert(file: &[u8], converted: &mut [u8]) -> Answer
     ensures { result leaving converted.new
-        ≡ flat_by flat_written (convert_outcome file.now converted.old) }
+        ≡ flat_by (flat counted) (convert_outcome file.now converted.old) }
 {
-    flat_written(file_convert::convert(file, converted))
+    file_convert::convert(file, converted).map_or_else(Answer::from, counted)
 }
 
 // `file_convert::output`: what `capitals` prints for the file in the buffer; `count` is its length in bytes. Where it
@@ -100,9 +97,9 @@ pub fn buulset_capitals(file: &[u8], printed: &mut [u8]) -> Answer
 
 // `table_check::check`: `count` is the number of nodes.
 pub fn buulset_check(table: &[u8]) -> Answer
-    ensures { result ≡ flat_checked (checked table.now) }
+    ensures { result ≡ flat counted (checked table.now) }
 {
-    flat_checked(table_check::check(table))
+    table_check::check(table).map_or_else(Answer::from, counted)
 }
 
 // `table::children`: the part of the table that it hands back, as the number of its first frame and of its frames.
@@ -112,7 +109,7 @@ pub fn buulset_children(table: &[u8], node: usize) -> Children
 {
     let count = table::children(table, node).len() / FRAME_SIZE;
     if count == 0 {
-        return no_children();
+        return Children::default();
     }
     Children {
         first: table::first_child(table, node),
@@ -200,26 +197,26 @@ fn flat_search(
 // `plain::search`: value, root move.
 pub fn buulset_plain(table: &[u8], evaluated: &mut [u8], certificate: &mut [u8]) -> Answer
     ensures { result leaving lent evaluated.new certificate.new []
-        ≡ flat_by flat_plain (plain_outcome table.now
+        ≡ flat_by (flat moved) (plain_outcome table.now
         (lent evaluated.old certificate.old [])) }
 {
-    flat_plain(plain::search(table, evaluated, certificate))
+    plain::search(table, evaluated, certificate).map_or_else(Answer::from, Answer::from)
 }
 
 // `best_line::line`: value, root move, and in `count` the number of nodes of the best line, which stand at the list's
 // front, the root first.
 pub fn buulset_line(table: &[u8], line: &mut [u16]) -> Answer
     ensures { result leaving line.new
-        ≡ flat_by flat_best_line (line_outcome table.now line.old) }
+        ≡ flat_by (flat lined) (line_outcome table.now line.old) }
 {
-    flat_best_line(best_line::line(table, line))
+    best_line::line(table, line).map_or_else(Answer::from, Answer::from)
 }
 
 // `certificate_check::check`: `value` is what the certificate certifies.
 pub fn buulset_verify(table: &[u8], certificate: &[u8]) -> Answer
-    ensures { result ≡ flat_verdict (verdict table.now certificate.now) }
+    ensures { result ≡ flat valued (verdict table.now certificate.now) }
 {
-    flat_verdict(certificate_check::check(table, certificate))
+    certificate_check::check(table, certificate).map_or_else(Answer::from, valued)
 }
 
 // `certificate_choice::select`, by its two parts: which certificate, and the length of what is handed back of it.
@@ -237,30 +234,32 @@ pub fn buulset_shorter<'a>(table: &[u8], first: &'a [u8], second: &'a [u8]) -> C
 // `graft::graft`: the result's table in the buffer; `count` is its number of nodes.
 pub fn buulset_graft(first: &[u8], node: usize, second: &[u8], res: &mut [u8]) -> Answer
     ensures { result leaving res.new
-        ≡ flat_by flat_checked (graft_outcome first.now node second.now res.old) }
+        ≡ flat_by (flat counted) (graft_outcome first.now node second.now res.old) }
 {
-    flat_checked(graft::graft(first, node, second, res))
+    graft::graft(first, node, second, res).map_or_else(Answer::from, counted)
 }
 
 // `leaf_value::least_value`: `value` is the leaf's.
 pub fn buulset_least_value(table: &[u8], node: usize, wanted: i32) -> Answer
-    ensures { result ≡ flat_least_value (least_value table.now node wanted) }
+    ensures { result ≡ flat valued (least_value table.now node wanted) }
 {
-    flat_least_value(leaf_value::least_value(table, node, wanted))
+    leaf_value::least_value(table, node, wanted).map_or_else(Answer::from, valued)
 }
 
 // `worst_fill::fill`: the ranks in the table; `count` is the number of leaves.
 pub fn buulset_fill(table: &mut [u8]) -> Answer
-    ensures { result leaving table.new ≡ flat_by flat_filled (fill_outcome table.old) }
+    ensures { result leaving table.new ≡ flat_by (flat counted) (fill_outcome table.old) }
 {
-    flat_filled(worst_fill::fill(table))
+    worst_fill::fill(table).map_or_else(Answer::from, counted)
 }
 
 // `least_count::least_leaves`: `count` is the number of leaves.
 pub fn buulset_least_leaves(width: usize, depth: usize) -> Answer
-    ensures { result ≡ flat_least (least_answer width depth) }
+    ensures { result ≡ flat counted (least_answer width depth) }
 {
-    flat_least(least_count::least_leaves(width, depth))
+    least_count::least_leaves(width, depth)
+        .map(usize::from)
+        .map_or_else(Answer::from, counted)
 }
 
 // `analysis::write`.

@@ -1,5 +1,5 @@
 -- The answers of the library for other languages: each kind as a struct of numbers.
-use Rattle.std.specs.Prelude.{ℕ, ℤ, pos, [], ◌∷◌, replicate}
+use Rattle.std.specs.Prelude.{ℕ, ℤ, pos, replicate}
 use Rattle.table.specs.declared.Rejection.{Rejection}
 use Rattle.file_line.specs.declared.Frame.{Frame}
 use Rattle.file_line.specs.declared.Cursor.{Cursor}
@@ -68,8 +68,7 @@ no_children = record { first = 0; count = 0 }
 
 -- one line: its bytes with the position past it, or none with the position as it was
 abbrev pub read_line : Frame → Cursor → Line
-read_line f c =
-    record { bytes = f.byte0 ∷ f.byte1 ∷ f.byte2 ∷ f.byte3 ∷ f.byte4 ∷ f.byte5 ∷ []; read = 1; at = c.at }
+read_line f c = record { bytes = f.bytes; read = 1; at = c.at }
 
 abbrev pub no_line : Cursor → Line
 no_line c = record { bytes = replicate 6 0; read = 0; at = c.at }

@@ -1,3 +1,3 @@
 -- The answers of the library for other languages.
 pub mod Answers
-pub use Answers.{valued, no_children}
+pub use Answers.{counted, valued, lined, moved, no_children}

@@ -1,12 +1,12 @@
-// The answers of the library for other languages: structs of numbers with the layout of C, and how each kind of answer
-// is made. Every member of an answer that is not given is 0.
+// The answers of the library for other languages: structs with the layout of C, and how each kind of answer is made.
+// Every member of an answer that is not given is 0. A flag and a refusal are numbers: an enum cannot cross to C.
 #![tactic(auto)]
 
 ghost use Rattle.std.specs.Prelude.{◌≡◌};
 ghost use Rattle.buulset_answers.specs.Answers.{result as result_of, counted as counted_of, valued as valued_of};
 ghost use Rattle.buulset_answers.specs.Answers.{found as found_of, moved as moved_of, spent as spent_of};
 ghost use Rattle.buulset_answers.specs.Answers.{lined as lined_of, refused as refused_of, laid_line as laid_line_of};
-ghost use Rattle.buulset_answers.specs.Answers.{chosen as chosen_of, no_choice as no_choice_of, no_children};
+ghost use Rattle.buulset_answers.specs.Answers.{chosen as chosen_of, no_choice as no_choice_of};
 ghost use Rattle.buulset_answers.specs.Answers.{read_line as read_of, no_line as no_line_of};
 
 use file_line::{Cursor, Frame};
@@ -19,7 +19,7 @@ use variation::LineFound;
 // The answer of a call. `refused` is 0, or the number of the first question that got a "no", and then `place` is its
 // place.
 #[repr(C)]
-#[derive(Clone, Copy)]
+#[derive(Clone, Copy, Default)]
 pub struct Answer {
     pub refused: u8,
     // 1 where its allowance ended the run of SSS*
@@ -36,7 +36,7 @@ pub struct Answer {
 
 // Which of two certificates is chosen, 1 or 2, and how many flags of it count, from its front; or a refusal.
 #[repr(C)]
-#[derive(Clone, Copy)]
+#[derive(Clone, Copy, Default)]
 pub struct Choice {
     pub refused: u8,
     pub chosen: u8,
@@ -46,7 +46,7 @@ pub struct Choice {
 
 // The children of a node: the number of the first, and how many there are; zeros where there are none.
 #[repr(C)]
-#[derive(Clone, Copy)]
+#[derive(Clone, Copy, Default)]
 pub struct Children {
     pub first: usize,
     pub count: usize,
@@ -54,7 +54,7 @@ pub struct Children {
 
 // A line: 1 in `read`, its six bytes and the position past it; or zeros and the position as it was.
 #[repr(C)]
-#[derive(Clone, Copy)]
+#[derive(Clone, Copy, Default)]
 pub struct Line {
     pub bytes: [u8; FRAME_SIZE],
     pub read: u8,
@@ -74,13 +74,11 @@ fn result(value: i16, count: usize, root_move: usize, steps: usize) -> Answer
     ensures { result ≡ result_of value count root_move steps }
 {
     Answer {
-        refused: 0,
-        spent: 0,
         value: value as i32,
-        place: 0,
         count,
         root_move,
         steps,
+        ..Answer::default()
     }
 }
 
@@ -99,53 +97,53 @@ pub fn valued(value: i16) -> Answer
 }
 
 // What a search finds as an answer.
-pub fn found(f: Findings) -> Answer
-    ensures { result ≡ found_of f }
-{
-    result(f.value, f.leaves, f.root_move, f.steps)
+impl From<Findings> for Answer {
+    ghost from_gives = { λ f r. r ≡ found_of f };
+
+    fn from(f: Findings) -> Answer {
+        result(f.value, f.leaves, f.root_move, f.steps)
+    }
 }
 
 // The best line as an answer: its length is the count.
-pub fn lined(f: LineFound) -> Answer
-    ensures { result ≡ lined_of f }
-{
-    result(f.value, f.length, f.root_move, 0)
+impl From<LineFound> for Answer {
+    ghost from_gives = { λ f r. r ≡ lined_of f };
+
+    fn from(f: LineFound) -> Answer {
+        result(f.value, f.length, f.root_move, 0)
+    }
 }
 
 // What the plain engine finds as an answer.
-pub fn moved(f: PlainResult) -> Answer
-    ensures { result ≡ moved_of f }
-{
-    result(f.value, 0, f.root_move, 0)
+impl From<PlainResult> for Answer {
+    ghost from_gives = { λ f r. r ≡ moved_of f };
+
+    fn from(f: PlainResult) -> Answer {
+        result(f.value, 0, f.root_move, 0)
+    }
 }
 
 // That an allowance is spent as an answer.
-pub fn spent(s: Spent) -> Answer
-    ensures { result ≡ spent_of s }
-{
-    Answer {
-        refused: 0,
-        spent: 1,
-        value: s.merit,
-        place: 0,
-        count: s.leaves,
-        root_move: 0,
-        steps: s.steps,
+impl From<Spent> for Answer {
+    ghost from_gives = { λ s r. r ≡ spent_of s };
+
+    fn from(s: Spent) -> Answer {
+        Answer {
+            spent: 1,
+            value: s.merit,
+            count: s.leaves,
+            steps: s.steps,
+            ..Answer::default()
+        }
     }
 }
 
 // A rejection as an answer.
-pub fn refused(rejection: Rejection) -> Answer
-    ensures { result ≡ refused_of rejection }
-{
-    Answer {
-        refused: rejection.number,
-        spent: 0,
-        value: 0,
-        place: rejection.place,
-        count: 0,
-        root_move: 0,
-        steps: 0,
+impl From<Rejection> for Answer {
+    ghost from_gives = { λ rejection r. r ≡ refused_of rejection };
+
+    fn from(rejection: Rejection) -> Answer {
+        laid_line(rejection, 0)
     }
 }
 
@@ -155,12 +153,9 @@ pub fn laid_line(rejection: Rejection, length: usize) -> Answer
 {
     Answer {
         refused: rejection.number,
-        spent: 0,
-        value: 0,
         place: rejection.place,
         count: length,
-        root_move: 0,
-        steps: 0,
+        ..Answer::default()
     }
 }
 
@@ -169,37 +164,30 @@ pub fn chosen(which: u8, count: usize) -> Choice
     ensures { result ≡ chosen_of which count }
 {
     Choice {
-        refused: 0,
         chosen: which,
-        place: 0,
         count,
+        ..Choice::default()
     }
 }
 
 // Neither of the two.
-pub fn no_choice(rejection: Rejection) -> Choice
-    ensures { result ≡ no_choice_of rejection }
-{
-    Choice {
-        refused: rejection.number,
-        chosen: 0,
-        place: rejection.place,
-        count: 0,
-    }
-}
+impl From<Rejection> for Choice {
+    ghost from_gives = { λ rejection r. r ≡ no_choice_of rejection };
 
-// No children.
-pub fn no_children() -> Children
-    ensures { result ≡ no_children }
-{
-    Children { first: 0, count: 0 }
+    fn from(rejection: Rejection) -> Choice {
+        Choice {
+            refused: rejection.number,
+            place: rejection.place,
+            ..Choice::default()
+        }
+    }
 }
 
 // A line that was read.
 pub fn read(f: Frame, past: Cursor) -> Line
     ensures { result ≡ read_of f past }
 {
-    let bytes = [f.byte0, f.byte1, f.byte2, f.byte3, f.byte4, f.byte5];
+    let bytes = f.bytes;
     Line {
         bytes,
         read: 1,
@@ -212,8 +200,7 @@ pub fn no_line(cursor: Cursor) -> Line
     ensures { result ≡ no_line_of cursor }
 {
     Line {
-        bytes: [0u8; FRAME_SIZE],
-        read: 0,
         at: cursor.at,
+        ..Line::default()
     }
 }

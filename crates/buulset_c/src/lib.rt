@@ -1,4 +1,5 @@
-// The library for C and Rust: exports each call of buulset, under its name and with its clauses.
+// The library for C and Rust: exports each call of buulset, under its name and with its clauses. The C interface needs
+// them repeated: no crate may use a static library, so an export's own contract is all that is proved of it.
 #![tactic(auto)]
 
 ghost use Rattle.std.specs.Prelude.{◌≡◌, [], length};
@@ -23,9 +24,9 @@ ghost use Rattle.worst_fill.specs.Outcome.{fill_outcome};
 ghost use Rattle.least_count.specs.Answer.{least_answer};
 ghost use Rattle.analysis.specs.Report.{report};
 ghost use Rattle.text.specs.Text.{refused_line, text_of};
-ghost use Rattle.buulset_flat.specs.Flat.{flat_checked, flat_written, flat_printed, flat_answer, flat_plain};
-ghost use Rattle.buulset_flat.specs.Flat.{flat_filled, flat_verdict, flat_least_value, flat_least, flat_choice};
-ghost use Rattle.buulset_flat.specs.Flat.{flat_line, flat_text, flat_best_line};
+ghost use Rattle.buulset_answers.specs.Answers.{counted, valued, lined, moved};
+ghost use Rattle.buulset_flat.specs.Flat.{flat, flat_printed, flat_answer, flat_choice};
+ghost use Rattle.buulset_flat.specs.Flat.{flat_line, flat_text};
 ghost use Rattle.buulset.specs.Version.{version};
 ghost use Rattle.buulset.specs.Children.{flat_children, part_of};
 ghost use Rattle.buulset.specs.Outcome.{flat_by};
@@ -44,7 +45,7 @@ pub extern "C" fn buulset_version() -> u32
 #[unsafe(no_mangle)]
 pub extern "C" fn buulset_read(file: &[u8], table: &mut [u8]) -> Answer
     ensures { result leaving table.new
-        ≡ flat_by flat_checked (read_outcome file.now table.old) }
+        ≡ flat_by (flat counted) (read_outcome file.now table.old) }
 {
     buulset::buulset_read(file, table)
 }
@@ -69,7 +70,7 @@ pub extern "C" fn buulset_digit(byte: u8) -> u8
 #[unsafe(no_mangle)]
 pub extern "C" fn buulset_write(table: &[u8], file: &mut [u8]) -> Answer
     ensures { result leaving file.new
-        ≡ flat_by flat_written (write_outcome table.now file.old) }
+        ≡ flat_by (flat counted) (write_outcome table.now file.old) }
 {
     buulset::buulset_write(table, file)
 }
@@ -78,7 +79,7 @@ pub extern "C" fn buulset_write(table: &[u8], file: &mut [u8]) -> Answer
 #[unsafe(no_mangle)]
 pub extern "C" fn buulset_convert(file: &[u8], converted: &mut [u8]) -> Answer
     ensures { result leaving converted.new
-        ≡ flat_by flat_written (convert_outcome file.now converted.old) }
+        ≡ flat_by (flat counted) (convert_outcome file.now converted.old) }
 {
     buulset::buulset_convert(file, converted)
 }
@@ -95,7 +96,7 @@ pub extern "C" fn buulset_capitals(file: &[u8], printed: &mut [u8]) -> Answer
 // `buulset::buulset_check`.
 #[unsafe(no_mangle)]
 pub extern "C" fn buulset_check(table: &[u8]) -> Answer
-    ensures { result ≡ flat_checked (checked table.now) }
+    ensures { result ≡ flat counted (checked table.now) }
 {
     buulset::buulset_check(table)
 }
@@ -179,7 +180,7 @@ pub extern "C" fn buulset_plain(
     certificate: &mut [u8],
 ) -> Answer
     ensures { result leaving lent evaluated.new certificate.new []
-        ≡ flat_by flat_plain (plain_outcome table.now
+        ≡ flat_by (flat moved) (plain_outcome table.now
         (lent evaluated.old certificate.old [])) }
 {
     buulset::buulset_plain(table, evaluated, certificate)
@@ -189,7 +190,7 @@ pub extern "C" fn buulset_plain(
 #[unsafe(no_mangle)]
 pub extern "C" fn buulset_line(table: &[u8], line: &mut [u16]) -> Answer
     ensures { result leaving line.new
-        ≡ flat_by flat_best_line (line_outcome table.now line.old) }
+        ≡ flat_by (flat lined) (line_outcome table.now line.old) }
 {
     buulset::buulset_line(table, line)
 }
@@ -197,7 +198,7 @@ pub extern "C" fn buulset_line(table: &[u8], line: &mut [u16]) -> Answer
 // `buulset::buulset_verify`.
 #[unsafe(no_mangle)]
 pub extern "C" fn buulset_verify(table: &[u8], certificate: &[u8]) -> Answer
-    ensures { result ≡ flat_verdict (verdict table.now certificate.now) }
+    ensures { result ≡ flat valued (verdict table.now certificate.now) }
 {
     buulset::buulset_verify(table, certificate)
 }
@@ -215,7 +216,7 @@ pub extern "C" fn buulset_shorter<'a>(table: &[u8], first: &'a [u8], second: &'a
 #[unsafe(no_mangle)]
 pub extern "C" fn buulset_graft(first: &[u8], node: usize, second: &[u8], res: &mut [u8]) -> Answer
     ensures { result leaving res.new
-        ≡ flat_by flat_checked (graft_outcome first.now node second.now res.old) }
+        ≡ flat_by (flat counted) (graft_outcome first.now node second.now res.old) }
 {
     buulset::buulset_graft(first, node, second, res)
 }
@@ -223,7 +224,7 @@ pub extern "C" fn buulset_graft(first: &[u8], node: usize, second: &[u8], res: &
 // `buulset::buulset_least_value`.
 #[unsafe(no_mangle)]
 pub extern "C" fn buulset_least_value(table: &[u8], node: usize, wanted: i32) -> Answer
-    ensures { result ≡ flat_least_value (least_value table.now node wanted) }
+    ensures { result ≡ flat valued (least_value table.now node wanted) }
 {
     buulset::buulset_least_value(table, node, wanted)
 }
@@ -231,7 +232,7 @@ pub extern "C" fn buulset_least_value(table: &[u8], node: usize, wanted: i32) ->
 // `buulset::buulset_fill`.
 #[unsafe(no_mangle)]
 pub extern "C" fn buulset_fill(table: &mut [u8]) -> Answer
-    ensures { result leaving table.new ≡ flat_by flat_filled (fill_outcome table.old) }
+    ensures { result leaving table.new ≡ flat_by (flat counted) (fill_outcome table.old) }
 {
     buulset::buulset_fill(table)
 }
@@ -239,7 +240,7 @@ pub extern "C" fn buulset_fill(table: &mut [u8]) -> Answer
 // `buulset::buulset_least_leaves`.
 #[unsafe(no_mangle)]
 pub extern "C" fn buulset_least_leaves(width: usize, depth: usize) -> Answer
-    ensures { result ≡ flat_least (least_answer width depth) }
+    ensures { result ≡ flat counted (least_answer width depth) }
 {
     buulset::buulset_least_leaves(width, depth)
 }

@@ -4,7 +4,7 @@
 
 use file::MAX_FILE;
 use file_convert::length_printed;
-use input::{Input, LARGE};
+use input::LARGE;
 use std::io;
 use std::io::Write;
 
@@ -13,8 +13,8 @@ use std::io::Write;
 fn main(rt: HostRuntime) -> io::Result<()> {
     let mut file = [0u8; LARGE];
     match input::read_all(&mut rt.stdin(), &mut file) {
-        Input::Bytes(size) => print_converted(&mut rt.stdout(), &file[..size]),
-        Input::Failed => print_failure(&mut rt.stderr()),
+        Ok(size) => print_converted(&mut rt.stdout(), &file[..size]),
+        Err(_) => eprintln!(rt; "capitals: standard input cannot be read"),
     }
 }
 
@@ -24,8 +24,4 @@ fn print_converted<W: Write>(out: &mut W, file: &[u8]) -> io::Result<()> {
     let printed = file_convert::output(file, &mut text);
     let end = length_printed(printed);
     out.write_all(&text[..end])
-}
-
-fn print_failure<W: Write>(out: &mut W) -> io::Result<()> {
-    out.write_all(b"capitals: standard input cannot be read\n")
 }

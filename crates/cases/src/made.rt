@@ -9,19 +9,17 @@ use table::{FRAME_SIZE, MAX_NODES, MAX_TABLE};
 const FILE_SIZE: usize = LINE_SIZE * MAX_NODES;
 
 // The largest tree has so many inner nodes, of so many children each.
-const INNER: usize = 273;
+const INNER: u16 = 273;
 
-const WIDTH: usize = 15;
+const WIDTH: u8 = 15;
 
-// How many numbers a byte has.
-const BYTES: usize = 256;
-
-// The report of a tree of as many nodes as a tree may have; a leaf's value is its number.
+// The report of a tree of as many nodes as a tree may have; a leaf's value is its number. There is room for its file,
+// so the writer refuses nothing.
 pub fn print_largest<W: Write>(out: &mut W) -> io::Result<()> {
     let mut table = [0u8; MAX_TABLE];
     let mut file = [0u8; FILE_SIZE];
     make_table(&mut table);
-    file::write(&table, &mut file);
+    let _ = file::write(&table, &mut file);
     out.write_all(b"# 4096 frames\n")?;
     print_report(out, &file)
 }
@@ -33,43 +31,25 @@ pub fn print_too_large<W: Write>(out: &mut W) -> io::Result<()> {
     print_report(out, &file)
 }
 
+// The frames of the nodes, in order.
 fn make_table(table: &mut [u8]) {
-    for at in 0..table.len() {
-        table[at] = tree_byte(at / FRAME_SIZE, at % FRAME_SIZE);
+    for (node, frame) in (0..MAX_NODES as u16).zip(table.chunks_exact_mut(FRAME_SIZE)) {
+        frame.copy_from_slice(&tree_frame(node));
     }
 }
 
-// A byte of a node's frame.
-fn tree_byte(node: usize, at: usize) -> u8 {
+// A node's frame: an inner node's has its first child and how many there are, a leaf's has its value.
+fn tree_frame(node: u16) -> [u8; FRAME_SIZE] {
     if node < INNER {
-        return inner_byte(1 + WIDTH * node, at);
+        let [high, low] = (1 + u16::from(WIDTH) * node).to_be_bytes();
+        return [high, low, WIDTH, 0, 0, 0];
     }
-    leaf_byte(node, at)
-}
-
-// A byte of an inner node's frame, by its first child.
-fn inner_byte(first: usize, at: usize) -> u8 {
-    match at {
-        0 => (first / BYTES % BYTES) as u8,
-        1 => (first % BYTES) as u8,
-        2 => WIDTH as u8,
-        _ => 0,
-    }
-}
-
-// A byte of a leaf's frame.
-fn leaf_byte(value: usize, at: usize) -> u8 {
-    match at {
-        4 => (value / BYTES % BYTES) as u8,
-        5 => (value % BYTES) as u8,
-        _ => 0,
-    }
+    let [high, low] = node.to_be_bytes();
+    [0, 0, 0, 0, high, low]
 }
 
 // What the program `analyse` prints for a file.
 pub fn print_report<W: Write>(out: &mut W, file: &[u8]) -> io::Result<()> {
     let text = analysis::write(file);
-    let bytes = text.bytes;
-    let end = text.length;
-    out.write_all(&bytes[..end])
+    out.write_all(text.as_bytes())
 }

@@ -1,7 +1,6 @@
 // The calls of the cases, on lent memory, and what they leave there.
 #![tactic(auto)]
 
-mod answers;
 pub mod certificates;
 pub mod print;
 pub mod questions;

@@ -1,50 +1,70 @@
-// What the cases print: numbers, the bytes of a buffer, and the numbers of a list.
-use std::io;
+// How the cases print what the calls give.
+use methods::Answer;
+use std::fmt::Display;
 use std::io::Write;
+use std::{fmt, io};
+use table::Rejection;
+use variation::LineFound;
 
-// A word and the bytes of a buffer in base ten, as a line.
-pub fn print_bytes<W: Write>(out: &mut W, word: &[u8], buffer: &[u8]) -> io::Result<()> {
-    out.write_all(word)?;
-    for i in 0..buffer.len() {
-        print_byte(out, buffer[i])?;
+// A word and the items of a row, as a line.
+pub fn print_row<W: Write, T: Display>(out: &mut W, word: &str, row: &[T]) -> io::Result<()> {
+    write!(out, "{word}")?;
+    for item in row {
+        write!(out, " {item}")?;
     }
-    print_line_feed(out)
+    writeln!(out)
 }
 
-// A word and the numbers of a list in base ten, as a line.
-pub fn print_numbers<W: Write>(out: &mut W, word: &[u8], list: &[u16]) -> io::Result<()> {
-    out.write_all(word)?;
-    for i in 0..list.len() {
-        print_number(out, list[i])?;
+// A rejection: its word, number and place.
+#[derive(Clone, Copy)]
+pub struct Refused(pub Rejection);
+
+impl Display for Refused {
+    fn fmt<W: fmt::Write>(&self, f: &mut fmt::Formatter<W>) -> fmt::Result {
+        write!(f, "refused {} {}", self.0.number, self.0.place)
     }
-    print_line_feed(out)
 }
 
-// A blank and a number of a list in base ten.
-fn print_number<W: Write>(out: &mut W, number: u16) -> io::Result<()> {
-    print_count(out, number as usize)
+// What a call gives, or the rejection of its input.
+#[derive(Clone, Copy)]
+pub struct Given<T>(pub Result<T, Rejection>);
+
+impl<T: Display> Display for Given<T> {
+    fn fmt<W: fmt::Write>(&self, f: &mut fmt::Formatter<W>) -> fmt::Result {
+        match &self.0 {
+            Ok(value) => write!(f, "{value}"),
+            Err(rejection) => write!(f, "{}", Refused(*rejection)),
+        }
+    }
 }
 
-// A blank and a byte in base ten.
-pub fn print_byte<W: Write>(out: &mut W, byte: u8) -> io::Result<()> {
-    write!(out, " {byte}")
+// What a search answers: the value, the root move, and the counts of evaluated leaves and of steps; or the merit of a
+// spent allowance and both counts.
+#[derive(Clone, Copy)]
+pub struct Answered(pub Answer);
+
+impl Display for Answered {
+    fn fmt<W: fmt::Write>(&self, f: &mut fmt::Formatter<W>) -> fmt::Result {
+        match self.0 {
+            Answer::Found(found) => write!(
+                f,
+                "{} {} {} {}",
+                found.value, found.root_move, found.leaves, found.steps
+            ),
+            Answer::Spent(spent) => {
+                write!(f, "spent {} {} {}", spent.merit, spent.leaves, spent.steps)
+            }
+            Answer::Rejected(rejection) => write!(f, "{}", Refused(rejection)),
+        }
+    }
 }
 
-// A blank and a count in base ten.
-pub fn print_count<W: Write>(out: &mut W, n: usize) -> io::Result<()> {
-    write!(out, " {n}")
-}
+// A best line: the value, the root move, and how many nodes it has.
+#[derive(Clone, Copy)]
+pub struct BestLine(pub LineFound);
 
-// A blank and a value in base ten.
-pub fn print_value<W: Write>(out: &mut W, value: i16) -> io::Result<()> {
-    print_merit(out, value as i32)
-}
-
-// A blank and a merit in base ten, a minus sign before a negative one.
-pub fn print_merit<W: Write>(out: &mut W, merit: i32) -> io::Result<()> {
-    write!(out, " {merit}")
-}
-
-pub fn print_line_feed<W: Write>(out: &mut W) -> io::Result<()> {
-    out.write_all(b"\n")
+impl Display for BestLine {
+    fn fmt<W: fmt::Write>(&self, f: &mut fmt::Formatter<W>) -> fmt::Result {
+        write!(f, "{} {} {}", self.0.value, self.0.root_move, self.0.length)
+    }
 }

@@ -1,11 +1,9 @@
 // SSS* over a lent list of states, and what it leaves there.
-use crate::answers::print_found;
-use crate::print::{print_bytes, print_count, print_line_feed, print_merit, print_numbers};
-use crate::tables::{FILLED, TABLE_SIZE, UNLISTED, fitted, read_table};
-use methods::Answer;
+use crate::print::{Answered, print_row};
+use crate::tables::{FILLED, TABLE_SIZE, UNLISTED, read_table};
 use sss::{State, Status};
-use std::io;
 use std::io::Write;
+use std::{fmt, io};
 
 // How many entries the lent list of states has.
 const ENTRIES: usize = 8;
@@ -22,42 +20,34 @@ pub fn print_states<W: Write>(
 ) -> io::Result<()> {
     let mut table = [0u8; TABLE_SIZE];
     read_table(file, &mut table);
-    let end = fitted(size as usize, &table);
+    let end = (size as usize).min(table.len());
     print_search(out, &table[..end], allowance as usize)
 }
 
 fn print_search<W: Write>(out: &mut W, table: &[u8], allowance: usize) -> io::Result<()> {
+    let mut list = unlike_states();
     let mut evaluated = [FILLED; ROOM];
     let mut certificate = [FILLED; ROOM];
     let mut order = [UNLISTED; ROOM];
-    let list = unlike_states();
-    print_list(out, b"before", list)?;
-    search_listed(
-        out,
-        list,
+    print_row(out, "before", &list.map(Entry))?;
+    let answer = sss::search(
         table,
+        &mut list,
         &mut evaluated,
         &mut certificate,
         &mut order,
         allowance,
-    )?;
-    print_bytes(out, b"evaluated", &evaluated)?;
-    print_bytes(out, b"certificate", &certificate)?;
-    print_numbers(out, b"order", &order)
+    );
+    writeln!(out, "sss {}", Answered(answer))?;
+    print_row(out, "after", &list.map(Entry))?;
+    print_row(out, "evaluated", &evaluated)?;
+    print_row(out, "certificate", &certificate)?;
+    print_row(out, "order", &order)
 }
 
 // Entries that differ from one another, and from what a search leaves.
 fn unlike_states() -> [State; ENTRIES] {
-    [
-        solved(1),
-        solved(2),
-        solved(3),
-        solved(4),
-        solved(5),
-        solved(6),
-        solved(7),
-        solved(8),
-    ]
+    [1, 2, 3, 4, 5, 6, 7, 8].map(solved)
 }
 
 // A state of a node with a merit of the same number.
@@ -65,54 +55,29 @@ fn solved(number: u16) -> State {
     State {
         node: number,
         status: Status::Solved,
-        merit: number as i32,
+        merit: i32::from(number),
     }
 }
 
-// The search, with the list lent to it.
-fn search_listed<W: Write>(
-    out: &mut W,
-    mut list: [State; ENTRIES],
-    table: &[u8],
-    evaluated: &mut [u8],
-    certificate: &mut [u8],
-    order: &mut [u16],
-    allowance: usize,
-) -> io::Result<()> {
-    let answer = sss::search(table, &mut list, evaluated, certificate, order, allowance);
-    print_ended(out, answer, list)
-}
+// An entry of the list: its node, its status and its merit.
+#[derive(Clone, Copy)]
+struct Entry(State);
 
-// What the search answers, and the list then.
-fn print_ended<W: Write>(out: &mut W, answer: Answer, list: [State; ENTRIES]) -> io::Result<()> {
-    out.write_all(b"sss")?;
-    print_found(out, answer)?;
-    print_line_feed(out)?;
-    print_list(out, b"after", list)
-}
-
-// A word and the entries of a list, as a line.
-fn print_list<W: Write>(out: &mut W, word: &[u8], list: [State; ENTRIES]) -> io::Result<()> {
-    out.write_all(word)?;
-    for i in 0..ENTRIES {
-        print_state(out, list[i])?;
+impl fmt::Display for Entry {
+    fn fmt<W: fmt::Write>(&self, f: &mut fmt::Formatter<W>) -> fmt::Result {
+        write!(
+            f,
+            "{} {} {}",
+            self.0.node,
+            status_word(self.0.status),
+            self.0.merit
+        )
     }
-    print_line_feed(out)
 }
 
-// An entry: its node, its status and its merit.
-fn print_state<W: Write>(out: &mut W, state: State) -> io::Result<()> {
-    let node = state.node;
-    let status = state.status;
-    let merit = state.merit;
-    print_count(out, node as usize)?;
-    print_status(out, status)?;
-    print_merit(out, merit)
-}
-
-fn print_status<W: Write>(out: &mut W, status: Status) -> io::Result<()> {
+fn status_word(status: Status) -> &'static str {
     match status {
-        Status::Live => out.write_all(b" live"),
-        Status::Solved => out.write_all(b" solved"),
+        Status::Live => "live",
+        Status::Solved => "solved",
     }
 }

@@ -3,7 +3,7 @@ ghost use Rattle.std.specs.Prelude.{◌≡◌, min, length};
 ghost use Rattle.file_read.specs.File.{read_outcome};
 ghost use Rattle.cases_calls.specs.Sizes.{IsPrefixLen, frames_size};
 
-use table::{Checked, FRAME_SIZE, MAX_NODES, MAX_TABLE};
+use table::{FRAME_SIZE, MAX_NODES, Rejection};
 
 // A table with one frame more than a tree may have.
 pub const TABLE_SIZE: usize = FRAME_SIZE * (MAX_NODES + 1);
@@ -22,31 +22,12 @@ pub fn read_table(file: &[u8], table: &mut [u8]) -> usize
     ensures table_after { table.new ≡ (read_outcome file.now table.old).left }
 {
     let size = frames_size(file::read(file, table));
-    fitted(size, table)
-}
-
-// The count, or the buffer's length where the buffer is shorter.
-pub fn fitted(count: usize, buffer: &[u8]) -> usize
-    ensures prefix_len { IsPrefixLen result buffer.now }
-    ensures value { result ≡ min count (length buffer.now) }
-{
-    if count < buffer.len() {
-        return count;
-    }
-    buffer.len()
+    size.min(table.len())
 }
 
 // How many bytes the frames of a checked table have, 0 where it is refused.
-pub fn frames_size(checked: Checked) -> usize
+pub fn frames_size(checked: Result<usize, Rejection>) -> usize
     ensures { result ≡ frames_size checked }
 {
-    match checked {
-        Checked::Nodes(nodes) => {
-            if nodes < MAX_NODES {
-                return FRAME_SIZE * nodes;
-            }
-            MAX_TABLE
-        }
-        Checked::Rejected(_) => 0,
-    }
+    checked.map_or(0, |nodes| FRAME_SIZE * nodes.min(MAX_NODES))
 }

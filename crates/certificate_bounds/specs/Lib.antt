@@ -5,5 +5,6 @@ unfoldable pub use Marks.{mark_all}
 pub use Marks.{mark, marked, ones}
 pub use Engine.Bounds.{bound_of, leaf_bounds}
 pub use Engine.Evaluable.{Evaluable}
+pub use Engine.Evaluations.{progress_of, SameBuffers}
 pub use Engine.Progress.{Progress, progress, evaluate_all, Listable}
 unfoldable pub use Engine.Ranges.{best_in}

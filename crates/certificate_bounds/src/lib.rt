@@ -1,7 +1,7 @@
 // Evaluating leaves, and the bounds of every node that follow from the evaluated ones.
 #![tactic(auto)]
 
-ghost use Rattle.std.specs.Prelude.{◌≡◌, ℕ, ◌+◌, ◌-◌, ◌<◌, ◌≤◌, length, get_or, set};
+ghost use Rattle.std.specs.Prelude.{[], ◌∷◌, ◌≡◌, ℕ, ◌+◌, ◌-◌, ◌<◌, ◌≤◌, length, get_or, set};
 ghost use Rattle.gametree.specs.Trees.{least, greatest};
 ghost use Rattle.table.specs.Frame.{max_nodes, frames, two_bytes};
 ghost use Rattle.table.specs.Position.{depth_of};
@@ -11,7 +11,8 @@ ghost use Rattle.table_positions.specs.Buffer.{written};
 ghost use Rattle.table_positions.specs.Engine.Positions.{Positioned};
 ghost use Rattle.certificate_bounds.specs.Marks.{marked};
 ghost use Rattle.certificate_bounds.specs.Engine.Evaluable.{Evaluable};
-ghost use Rattle.certificate_bounds.specs.Engine.Progress.{progress, Listable};
+ghost use Rattle.certificate_bounds.specs.Engine.Progress.{progress, evaluate_all, Listable};
+ghost use Rattle.certificate_bounds.specs.Engine.Evaluations.{progress_of, SameBuffers};
 ghost use Rattle.certificate_bounds.specs.Engine.Ranges.{best_in};
 ghost use Rattle.certificate_bounds.specs.Engine.Bounds.{bound_of, bounds_of, leaf_bounds};
 
@@ -41,32 +42,29 @@ pub fn evaluate(table: &[u8], evaluated: &mut [u8], node: usize, depth: u32) -> 
     read_leaf(table, evaluated, node, depth)
 }
 
-// What the evaluation of a leaf gives: its score, and how many leaves are evaluated now.
-#[derive(Clone, Copy)]
-pub struct Evaluation {
-    pub score: u32,
+// The evaluations of a search so far: the marks of the leaves, their numbers in the order of their evaluation, and how
+// many they are. Marks and list are lent by the caller.
+#[derive(Drop)]
+pub struct Evaluations<'a> {
+    pub marks: &'a mut [u8],
+    pub order: &'a mut [u16],
     pub leaves: usize,
 }
 
-// Evaluates a leaf, counts it, and appends its number to the list, after the `leaves` numbers that are there.
-pub fn evaluate_next(
-    table: &[u8],
-    evaluated: &mut [u8],
-    order: &mut [u16],
-    node: usize,
-    depth: u32,
-    mut leaves: usize,
-) -> Evaluation
-    requires evaluable { Evaluable table.now evaluated.old node depth }
-    requires listable { Listable table.now (progress leaves evaluated.old order.old) }
-    ensures score_value { (result.score ≡ valuation table.now node) × (result.leaves ≡ leaves + 1) }
-    ensures evaluated_after { evaluated.new ≡ set evaluated.old node 1 }
-    ensures order_after { order.new ≡ set order.old leaves node }
-{
-    let score = evaluate(table, evaluated, node, depth);
-    order[leaves] = node as u16;
-    leaves += 1;
-    Evaluation { score, leaves }
+impl Evaluations<'_> {
+    // Evaluates a leaf, counts it, and appends its number to the list.
+    pub fn evaluate(&mut self, table: &[u8], node: usize, depth: u32) -> u32
+        requires evaluable { Evaluable table.now self.old.marks.now node depth }
+        requires listable { Listable table.now (progress_of self.old) }
+        ensures value { (result ≡ valuation table.now node) × (result < two_bytes) }
+        ensures progress { progress_of self.new ≡ evaluate_all (progress_of self.old) (node ∷ []) }
+        ensures same_buffers { SameBuffers self.old self.new }
+    {
+        let score = evaluate(table, self.marks, node, depth);
+        self.order[self.leaves] = node as u16;
+        self.leaves += 1;
+        score
+    }
 }
 
 // The first n marks become 0.
@@ -74,11 +72,7 @@ pub fn clear(evaluated: &mut [u8], n: usize)
     requires { n ≤ length evaluated.old }
     ensures { evaluated.new ≡ written (λ k. 0) n evaluated.old }
 {
-    let mut i = 0;
-    while i < n {
-        evaluated[i] = 0;
-        i += 1;
-    }
+    evaluated[..n].fill(0);
 }
 
 // The two bounds of a node.
@@ -107,9 +101,7 @@ pub fn fill_bounds(
         (frames table.now) highs.old }
     ensures evaluated_unchanged { evaluated.new ≡ evaluated.old }
 {
-    let mut node = frame_count(table);
-    while 0 < node {
-        node -= 1;
+    for node in (0..frame_count(table)).rev() {
         let bounds = node_bounds(table, positions, evaluated, lows, highs, node);
         lows[node] = bounds.low;
         highs[node] = bounds.high;
@@ -174,10 +166,9 @@ pub fn best(bounds: &[u32], from: usize, to: usize, side: Side) -> u32
     requires { (from < to) × (to ≤ length bounds.now) }
     ensures { result ≡ best_in side (λ k. get_or bounds.now k 0) from (to - (from + 1)) }
 {
-    let mut at = to - 1;
-    let mut value = bounds[at];
-    while from < at {
-        at -= 1;
+    let last = to - 1;
+    let mut value = bounds[last];
+    for at in (from..last).rev() {
         value = better(side, bounds[at], value);
     }
     value

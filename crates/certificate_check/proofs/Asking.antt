@@ -1,7 +1,6 @@
 -- A question with a number that is put to node after node: the turns of such a loop.
-use Rattle.prelude.proofs.{ℕ, ◌+◌, ◌≤◌, ◌<◌, arith, ◌≡◌, ap, Bool, true, false, Option}
+use Rattle.prelude.proofs.{ℕ, ◌+◌, ◌≤◌, ◌<◌, arith, ◌≡◌, ap, Bool, true, false, Option, Ok}
 use Rattle.table.specs.declared.Rejection.{Rejection}
-use Rattle.table.specs.declared.Checked.TheVariants.{Nodes}
 use Rattle.table.specs.{ask, each_node, answer}
 use Rattle.table.proofs.Asked.{Passed, passed_none, passed-more, passed-until, passed-all, refused}
 
@@ -30,7 +29,7 @@ module _ (f : ℕ → Bool) (q n : ℕ) where
     asking-until h e = rw (passed-until (asked f q) n i h a.passed _ (ap (λ b. ask b q i) e))
 
     -- it has passed at each node
-    pub asking-all : n ≤ i → Nodes n ≡ answer n (each_node (asked f q) 0 n)
+    pub asking-all : n ≤ i → Ok n ≡ answer n (each_node (asked f q) 0 n)
     asking-all h =
         let e : i ≡ n = omega (arith, a.within) in
         rw (passed-all (asked f q) n (rw e at a.passed))

@@ -1,8 +1,7 @@
 -- The rules of a side's tree, asked of node after node until every node has been reached as a child: those that are
 -- left are leaves, whose rules hold.
-use Rattle.prelude.proofs.{ℕ, ◌+◌, ◌-◌, ◌≤◌, ◌<◌, arith, dec_lt, ◌≡◌, refl, ap, ◌∙◌, true, false, List}
+use Rattle.prelude.proofs.{ℕ, ◌+◌, ◌-◌, ◌≤◌, ◌<◌, arith, dec_lt, ◌≡◌, refl, ap, ◌∙◌, true, false, List, Ok}
 use Rattle.gametree.specs.declared.Side.{Side}
-use Rattle.table.specs.declared.Checked.TheVariants.{Nodes}
 use Rattle.table.specs.{frames, child_count, next, WellFormed, ask, answer}
 use Rattle.table.proofs.Next.{next_more, next-within, none_after}
 use Rattle.table.proofs.Asked.{refused, passed-each}
@@ -56,7 +55,7 @@ module _ (p : Side) (q : ℕ) (t flags : List ℕ) (wf : WellFormed t) where
           }
 
       -- the rule holds at node i, and every node is reached
-      pub ruling-all : m + n ≡ frames t → Nodes (frames t) ≡ answer (frames t) (check_tree q p t flags)
+      pub ruling-all : m + n ≡ frames t → Ok (frames t) ≡ answer (frames t) (check_tree q p t flags)
       ruling-all h =
           let k = frames t - (i + 1) in
           let f = passed-each (asked (rule_holds p t flags) q) (i + 1) k (λ j a b.

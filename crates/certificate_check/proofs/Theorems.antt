@@ -1,5 +1,6 @@
 -- The check of a certificate accepts exactly the certificates, and gives their value, the minimax value of the tree.
 use Rattle.prelude.proofs.{ℕ, ◌<◌, arith, ◌≡◌, refl, sym, ap, ◌∙◌, ◌↔◌, Bool, true, Option, none, some, List, [], ◌∷◌}
+use Rattle.prelude.proofs.{Ok}
 use Rattle.prelude.proofs.{leb, ℤ, length, get_or, le-leb, leb-true, eq-eqb, eqb-true}
 use Rattle.gametree.specs.declared.Side.TheVariants.{Max, Min}
 use Rattle.gametree.specs.{minimax}
@@ -10,7 +11,6 @@ use Rattle.table.specs.{frames, tree, valuation, ask, each_node, rejection, chec
 use Rattle.table.proofs.Asked.{each-passed, passed-each}
 use Rattle.table.proofs.Stated.{ask-yes, yes-ask, both-passed, passed-both}
 use Rattle.table.proofs.Acceptance.{accepted-formed}
-use Rattle.certificate_check.specs.declared.Verdict.TheVariants.{Value}
 use Rattle.certificate_check.specs.{rule_holds, tree_value, check11, check_tree, check14, trees_rejection}
 use Rattle.certificate_check.specs.{flags_rejection, certificate_rejection, judged, verdict}
 use Rattle.certificate_check.specs.Certificate.{Certificate}
@@ -18,7 +18,7 @@ use Rattle.certificate_check.proofs.Rules.{rules-solve, solved-rules}
 use Rattle.certificate_check.proofs.Values.{tree-value-same}
 
 -- a value is given where there is no rejection
-judged-value : (t flags : List ℕ) (z : ℤ) (o : Option Rejection) → judged t flags o ≡ Value z
+judged-value : (t flags : List ℕ) (z : ℤ) (o : Option Rejection) → judged t flags o ≡ Ok z
     → (o ≡ none) × (z ≡ value_of (tree_value Max t flags))
 judged-value t flags z none e = (refl, cc)
 judged-value t flags z (some r) e = absurd (let x : ◌≡◌ {A = ℕ} 0 1 = cc in omega arith)
@@ -75,28 +75,28 @@ module _ (t flags : List ℕ) where
       (yes-ask _ 14 0 (eq-eqb _ _ e))))))
 
   -- the value of a certificate is the verdict on it
-  pub certificate-verdict : (v : ℕ) → Certificate t flags v → verdict t flags ≡ Value (value_of v)
+  pub certificate-verdict : (v : ℕ) → Certificate t flags v → verdict t flags ≡ Ok (value_of v)
   unfolding verdict
   certificate-verdict v c =
       let e = sym (tree-value-same Max t flags (accepted-formed t c.accepted)) ∙ c.certifies.max_value in
-      rw (certificate-passed v c) (ap (λ x. Value (value_of x)) e)
+      rw (certificate-passed v c) (ap (λ x. Ok (value_of x)) e)
 
   -- and what gets a value is a certificate of it
-  pub verdict-certificate : (z : ℤ) → verdict t flags ≡ Value z → (v : ℕ) × Certificate t flags v × (z ≡ value_of v)
+  pub verdict-certificate : (z : ℤ) → verdict t flags ≡ Ok z → (v : ℕ) × Certificate t flags v × (z ≡ value_of v)
   unfolding verdict
   verdict-certificate z e =
       let j = judged-value t flags z (certificate_rejection t flags) e in
       (tree_value Max t flags, passed-certificate j.0, j.1)
 
   -- the flags are accepted exactly if they are a max and a min solution tree of the table's tree with equal value
-  pub accepts-certificates : ((z : ℤ) × (verdict t flags ≡ Value z)) ↔ ((v : ℕ) × Certificate t flags v)
+  pub accepts-certificates : ((z : ℤ) × (verdict t flags ≡ Ok z)) ↔ ((v : ℕ) × Certificate t flags v)
   accepts-certificates = (
     λ a. (let c = verdict-certificate a.0 a.1 in (c.0, c.1)),
     λ c. (value_of c.0, certificate-verdict c.0 c.1),
   )
 
   -- and the value given is then the minimax value of that tree
-  pub accepted-minimax : (z : ℤ) → verdict t flags ≡ Value z → z ≡ value_of (minimax (valuation t) (tree t))
+  pub accepted-minimax : (z : ℤ) → verdict t flags ≡ Ok z → z ≡ value_of (minimax (valuation t) (tree t))
   accepted-minimax z e =
       let c = verdict-certificate z e in
       c.2 ∙ ap value_of (certificate-minimax (valuation t) (tree t) _ _ c.0 c.1.certifies)

@@ -1,5 +1,5 @@
 -- The check of a lent certificate: questions 1 to 14 in order (SPEC 4.2, 5.5).
-use Rattle.std.specs.Prelude.{ℕ, List, [], ◌∷◌, leb, eqb, length, get_or}
+use Rattle.std.specs.Prelude.{ℕ, List, [], ◌∷◌, leb, eqb, length, get_or, Result, Ok, Err, ℤ}
 use Rattle.std.proofs.Math.Option.{Option}
 use Rattle.gametree.specs.declared.Side.{Side}
 use Rattle.gametree.specs.declared.Side.TheVariants.{Max, Min}
@@ -9,8 +9,6 @@ use Rattle.table.specs.Frame.{frames}
 use Rattle.table.specs.Rejection.{ask, ◌and_then◌, each_node, unless}
 use Rattle.table.specs.Check.{rejection, check10}
 use Rattle.table.specs.Value.{value_of}
-use Rattle.certificate_check.specs.declared.Verdict.{Verdict}
-use Rattle.certificate_check.specs.declared.Verdict.TheVariants.{Value, Rejected}
 use Rattle.certificate_check.specs.Flags.{rule_holds}
 use Rattle.certificate_check.specs.Value.{tree_value}
 
@@ -41,9 +39,9 @@ unfoldable pub certificate_rejection : List ℕ → List ℕ → Option Rejectio
 certificate_rejection t flags = rejection t and_then flags_rejection t flags
 
 -- the value of the max tree, unless there is a rejection
-abbrev pub judged : List ℕ → List ℕ → Option Rejection → Verdict
-judged t flags q = unless q Rejected (Value (value_of (tree_value Max t flags)))
+abbrev pub judged : List ℕ → List ℕ → Option Rejection → Result ℤ Rejection
+judged t flags q = unless q Err (Ok (value_of (tree_value Max t flags)))
 
 -- the answer of the check of a certificate
-unfoldable pub verdict : List ℕ → List ℕ → Verdict
+unfoldable pub verdict : List ℕ → List ℕ → Result ℤ Rejection
 verdict t flags = judged t flags (certificate_rejection t flags)

@@ -1,154 +1,132 @@
 // The check of a lent certificate (01: the proof check).
 #![tactic(auto)]
 
-ghost use Rattle.std.specs.Prelude.{◌≡◌, ◌+◌, ◌≤◌, ◌<◌, true, length};
-ghost use Rattle.lists.specs.Lists.{count_from};
-ghost use Rattle.gametree.specs.Certificate.{inside, same as same_side, worst as worst_of};
+ghost use Rattle.std.specs.Prelude.{count_by, ◌≡◌, ◌+◌, ◌≤◌, ◌<◌, true, length};
+ghost use Rattle.gametree.specs.Certificate.{inside, worst as worst_of};
 ghost use Rattle.table.specs.Frame.{max_nodes, frames};
 ghost use Rattle.table.specs.Position.{depth_of, side_of};
 ghost use Rattle.table.specs.Formed.{WellFormed};
+ghost use Rattle.table.specs.Questions.{number_of};
 ghost use Rattle.table.specs.Rejection.{answer};
 ghost use Rattle.table_positions.specs.Engine.Positions.{Positioned};
-ghost use Rattle.certificate_check.specs.Flags.{member, required_of, rule_holds};
+ghost use Rattle.certificate_check.specs.Flags.{required_of, rule_holds};
 ghost use Rattle.certificate_check.specs.Value.{leaf_in, tree_value};
 ghost use Rattle.certificate_check.specs.Check.{check11, check_tree, trees_rejection, flags_rejection, judged};
 ghost use Rattle.certificate_check.specs.Check.{verdict};
 
 use gametree::{Side, better};
 use table::{
-    Checked, GREATEST, IN_BOTH, IN_MAX, IN_MIN, LEAST, MAX_NODES, Rejection, SHORT_BUFFER,
-    child_count, first_child, frame_count, leaf_score, rejected, value,
+    GREATEST, IN_BOTH, IN_MAX, IN_MIN, LEAST, MAX_NODES, Question, Rejection, child_count,
+    first_child, frame_count, leaf_score, value,
 };
 use table_positions::{depth_at, fill, side_at};
-
-// The numbers of the questions about a certificate, by what a "no" means (SPEC 4.2).
-pub const WRONG_FLAG: u8 = 11;
-
-pub const NO_MAX_TREE: u8 = 12;
-
-pub const NO_MIN_TREE: u8 = 13;
-
-pub const UNEQUAL_VALUES: u8 = 14;
 
 // A tree of at most so many nodes gets a small work array.
 const FEW_NODES: usize = 512;
 
-// The answer: the value that the certificate proves, or a rejection.
-#[derive(Clone, Copy)]
-pub enum Verdict {
-    Value(i16),
-    Rejected(Rejection),
-}
-
 // Questions 1 to 14 in order: the value that the flags prove, or the first rejection.
-pub fn check(table: &[u8], flags: &[u8]) -> Verdict
+pub fn check(table: &[u8], flags: &[u8]) -> Result<i16, Rejection>
     ensures { result ≡ verdict table.now flags.now }
 {
-    let checked = table_check::check(table);
-    match checked {
-        Checked::Rejected(r) => Verdict::Rejected(r),
-        Checked::Nodes(_) => check_certificate(table, flags),
-    }
+    table_check::check(table)?;
+    check_certificate(table, flags)
 }
 
 // Questions 10 to 14, for a well-formed table.
-pub fn check_certificate(table: &[u8], flags: &[u8]) -> Verdict
+pub fn check_certificate(table: &[u8], flags: &[u8]) -> Result<i16, Rejection>
     requires { WellFormed table.now }
     ensures { result ≡ judged table.now flags.now
         (flags_rejection table.now flags.now) }
 {
     if flags.len() < frame_count(table) {
-        return Verdict::Rejected(Rejection {
-            number: SHORT_BUFFER,
-            place: 0,
-        });
+        return Err(Question::ShortBuffer.at(0));
     }
-    let checked = check_flags(table, flags);
-    match checked {
-        Checked::Rejected(r) => Verdict::Rejected(r),
-        Checked::Nodes(_) => check_trees(table, flags),
-    }
+    check_flags(table, flags)?;
+    check_trees(table, flags)
 }
 
 // Questions 12 to 14, for a well-formed table and a flag for each node; a small tree gets a small work array.
-fn check_trees(table: &[u8], flags: &[u8]) -> Verdict
+fn check_trees(table: &[u8], flags: &[u8]) -> Result<i16, Rejection>
     requires { (WellFormed table.now) × (frames table.now ≤ length flags.now) }
     ensures { result ≡ judged table.now flags.now
         (trees_rejection table.now flags.now) }
 {
     if frame_count(table) <= FEW_NODES {
-        let mut positions = [0u32; FEW_NODES];
-        fill(table, &mut positions);
-        return judge(table, flags, &positions);
+        return judge_in::<FEW_NODES>(table, flags);
     }
-    let mut positions = [0u32; MAX_NODES];
+    judge_in::<MAX_NODES>(table, flags)
+}
+
+// The same, with a work array of N entries for the positions of the nodes.
+fn judge_in<const N: usize>(table: &[u8], flags: &[u8]) -> Result<i16, Rejection>
+    requires well_formed { (WellFormed table.now) × (frames table.now ≤ length flags.now) }
+    requires room { (frames table.now ≤ N) × (N ≤ max_nodes) }
+    ensures { result ≡ judged table.now flags.now
+        (trees_rejection table.now flags.now) }
+{
+    let mut positions = [0u32; N];
     fill(table, &mut positions);
     judge(table, flags, &positions)
 }
 
 // The same, with the positions of the nodes.
-fn judge(table: &[u8], flags: &[u8], positions: &[u32]) -> Verdict
+fn judge(table: &[u8], flags: &[u8], positions: &[u32]) -> Result<i16, Rejection>
     requires { (WellFormed table.now) × (frames table.now ≤ length flags.now)
         × (Positioned table.now positions.now) }
     ensures { result ≡ judged table.now flags.now
         (trees_rejection table.now flags.now) }
 {
-    let max_tree = check_rules(table, flags, positions, Side::Max, NO_MAX_TREE);
-    if let Checked::Rejected(r) = max_tree {
-        return Verdict::Rejected(r);
-    }
-    let min_tree = check_rules(table, flags, positions, Side::Min, NO_MIN_TREE);
-    if let Checked::Rejected(r) = min_tree {
-        return Verdict::Rejected(r);
-    }
+    check_rules(table, flags, positions, Side::Max, Question::NoMaxTree)?;
+    check_rules(table, flags, positions, Side::Min, Question::NoMinTree)?;
     let values = tree_values(table, flags, positions);
     let score = values.greatest;
     if score != values.least {
-        return Verdict::Rejected(Rejection {
-            number: UNEQUAL_VALUES,
-            place: 0,
-        });
+        return Err(Question::UnequalValues.at(0));
     }
-    Verdict::Value(value(score))
+    Ok(value(score))
 }
 
 // Question 11, put to one node after the other: is every flag 0 to 3?
-fn check_flags(table: &[u8], flags: &[u8]) -> Checked
+fn check_flags(table: &[u8], flags: &[u8]) -> Result<usize, Rejection>
     requires { frames table.now ≤ length flags.now }
     ensures { result ≡ answer (frames table.now) (check11 table.now flags.now) }
 {
     let n = frame_count(table);
     for node in 0..n {
         if IN_BOTH < flags[node] {
-            return rejected(WRONG_FLAG, node);
+            return Err(Question::WrongFlag.at(node));
         }
     }
-    Checked::Nodes(n)
+    Ok(n)
 }
 
 // Questions 12 and 13, put to one node after the other: do the side's flags form a solution tree? Once every node has
 // been reached as a child, the nodes not visited yet are leaves, and nothing is asked about them.
-fn check_rules(table: &[u8], flags: &[u8], positions: &[u32], side: Side, number: u8) -> Checked
+fn check_rules(
+    table: &[u8],
+    flags: &[u8],
+    positions: &[u32],
+    side: Side,
+    question: Question,
+) -> Result<usize, Rejection>
     requires { (WellFormed table.now) × (frames table.now ≤ length flags.now)
         × (Positioned table.now positions.now) }
     ensures { result
-        ≡ answer (frames table.now) (check_tree number side table.now flags.now) }
+        ≡ answer (frames table.now) (check_tree (number_of question) side table.now flags.now) }
 {
     let n = frame_count(table);
-    let mut node: usize = 0;
     let mut next: usize = 1;
-    loop {
+    for node in 0..n {
         let mover = side_at(positions, node);
         if !rule_holds(table, flags, node, mover, side) {
-            return rejected(number, node);
+            return Err(question.at(node));
         }
         next += child_count(table, node);
         if next == n {
             break;
         }
-        node += 1;
     }
-    Checked::Nodes(n)
+    Ok(n)
 }
 
 // The rule of a node where `mover` moves, for the side's tree: the root is in it, and as many children as required.
@@ -159,35 +137,27 @@ fn rule_holds(table: &[u8], flags: &[u8], node: usize, mover: Side, side: Side) 
     ensures { result ≡ rule_holds side table.now flags.now node }
 {
     let member = is_member(flags[node], side);
-    if node == 0 {
-        if !member {
-            return false;
-        }
+    if node == 0 && !member {
+        return false;
     }
     let count = child_count(table, node);
     if count == 0 {
         return true;
     }
-    let members = count_members(flags, first_child(table, node), count, side);
+    let first = first_child(table, node);
+    let end = first + count;
+    let members = count_members(&flags[first..end], side);
     if !member {
         return members == 0;
     }
     members == required(side, mover, count)
 }
 
-// How many of the `count` nodes from `first` on are in the side's tree.
-fn count_members(flags: &[u8], first: usize, count: usize, side: Side) -> usize
-    requires { first + count ≤ length flags.now }
-    ensures { result ≡ count_from (member side flags.now) first count }
+// How many nodes with these flags are in the side's tree.
+fn count_members(flags: &[u8], side: Side) -> usize
+    ensures { result ≡ count_by (inside side) flags.now }
 {
-    let end = first + count;
-    let mut members: usize = 0;
-    for node in first..end {
-        if is_member(flags[node], side) {
-            members += 1;
-        }
-    }
-    members
+    flags.iter().filter(|flag| is_member(**flag, side)).count()
 }
 
 // How many of its children an inner node of the side's tree where `mover` moves has in that tree.
@@ -195,7 +165,7 @@ fn required(side: Side, mover: Side, count: usize) -> usize
     requires { 0 < count }
     ensures { result ≡ required_of side mover true count }
 {
-    if same(side, mover) { count } else { 1 }
+    if side == mover { count } else { 1 }
 }
 
 // The values of the two trees: the greatest score of the max tree's leaves, the least of the min tree's.
@@ -245,29 +215,11 @@ fn leaf_in(table: &[u8], flags: &[u8], node: usize, depth: u32, side: Side) -> u
 fn is_member(flag: u8, side: Side) -> bool
     ensures { result ≡ inside side flag }
 {
-    if flag == IN_BOTH {
-        return true;
-    }
-    match side {
-        Side::Max => flag == IN_MAX,
-        Side::Min => flag == IN_MIN,
-    }
-}
-
-// Are two sides the same?
-fn same(a: Side, b: Side) -> bool
-    ensures { result ≡ same_side a b }
-{
-    match a {
-        Side::Max => match b {
-            Side::Max => true,
-            Side::Min => false,
-        },
-        Side::Min => match b {
-            Side::Max => false,
-            Side::Min => true,
-        },
-    }
+    let alone = match side {
+        Side::Max => IN_MAX,
+        Side::Min => IN_MIN,
+    };
+    flag == IN_BOTH || flag == alone
 }
 
 // The worst score for a side: every other is better.

@@ -1,4 +1,5 @@
 -- What the verdict on each certificate says of the choice.
+use Rattle.prelude.proofs.{Result, Ok, Err}
 use Rattle.prelude.proofs.{ℕ, ◌≤◌, ◌≡◌, refl, Bool, true, false, Option, none, some, List, [], ◌∷◌, length, ltb}
 use Rattle.prelude.proofs.{leb-true}
 use Rattle.lists.proofs.Choice.{and_both}
@@ -6,8 +7,8 @@ use Rattle.table.specs.declared.Rejection.{Rejection}
 use Rattle.table.specs.{frames, ◌and_then◌, rejection, check10, unless}
 use Rattle.table.proofs.Stated.{ask-yes, both-passed}
 use Rattle.certificate_check.specs.{flags_rejection}
-use Rattle.certificate_choice.specs.declared.Choice.{Choice}
-use Rattle.certificate_choice.specs.declared.Choice.TheVariants.{First, Second, Rejected}
+use Rattle.certificate_choice.specs.declared.Chosen.{Chosen}
+use Rattle.certificate_choice.specs.declared.Chosen.TheVariants.{First, Second}
 use Rattle.certificate_choice.specs.{flagged_leaves, choice_by, choice}
 
 module _ (t flags : List ℕ) where
@@ -20,12 +21,12 @@ module _ (t flags : List ℕ) where
 
 -- what a choice says of the rejections: neither the table nor the chosen certificate is rejected; or the table is, or
 -- else the first certificate
-abbrev Says : (o p q : Option Rejection) → Choice → Type 0
-Says o p q First = (o ≡ none) × (p ≡ none)
-Says o p q Second = (o ≡ none) × (q ≡ none)
-Says o p q (Rejected r) = o and_then p ≡ some r
+abbrev Says : (o p q : Option Rejection) → Result Chosen Rejection → Type 0
+Says o p q (Ok First) = (o ≡ none) × (p ≡ none)
+Says o p q (Ok Second) = (o ≡ none) × (q ≡ none)
+Says o p q (Err r) = o and_then p ≡ some r
 
-says : (o p q : Option Rejection) (b : Bool) → Says o p q (unless o Rejected (choice_by p q b))
+says : (o p q : Option Rejection) (b : Bool) → Says o p q (unless o Err (choice_by p q b))
 says none none none true = (refl, refl)
 says none none none false = (refl, refl)
 says none none (some s) b = (refl, refl)
@@ -33,7 +34,7 @@ says none (some r) none b = (refl, refl)
 says none (some r) (some s) b = refl
 says (some r) p q b = refl
 
-pub choice-says : (t f s : List ℕ) (c : Choice) → c ≡ choice t f s
+pub choice-says : (t f s : List ℕ) (c : Result Chosen Rejection) → c ≡ choice t f s
     → Says (rejection t) (flags_rejection t f) (flags_rejection t s) c
 unfolding choice
 choice-says t f s c e =

@@ -7,18 +7,17 @@ ghost use Rattle.table.specs.Formed.{WellFormed};
 ghost use Rattle.certificate_check.specs.Check.{flags_rejection};
 ghost use Rattle.certificate_choice.specs.Choice.{flagged_leaf, flagged_leaves, choice_by, choice, flags_by};
 ghost use Rattle.certificate_choice.specs.Choice.{pointer_by};
-ghost use Rattle.certificate_choice.specs.declared.Choice.TheVariants.{First, Second};
+ghost use Rattle.certificate_choice.specs.declared.Chosen.TheVariants.{First, Second};
 
-use certificate_check::{Verdict, check_certificate};
-use table::{Checked, Rejection, child_count, frame_count};
+use certificate_check::check_certificate;
+use table::{Rejection, child_count, frame_count};
 use table_check::check;
 
-// Which of two certificates is handed back, or a rejection.
-#[derive(Clone, Copy)]
-pub enum Choice {
+// Which of two certificates is handed back.
+#[derive(Clone, Copy, Debug, PartialEq, Eq)]
+pub enum Chosen {
     First,
     Second,
-    Rejected(Rejection),
 }
 
 // What is handed back of two certificates: the flags of the chosen one, one a node, as a part of its own memory, and
@@ -26,7 +25,7 @@ pub enum Choice {
 #[derive(Clone, Copy)]
 pub struct Selection<'r> {
     pub flags: &'r [u8],
-    pub choice: Choice,
+    pub choice: Result<Chosen, Rejection>,
 }
 
 // Questions 1 to 9 of the table, then 10 to 14 of each certificate by itself: the one that is accepted; if both are,
@@ -46,38 +45,36 @@ pub fn select<'t, 'a: 'r, 'b: 'r, 'r>(
 }
 
 // Which of two certificates is handed back, or the rejection.
-pub fn choose(table: &[u8], first: &[u8], second: &[u8]) -> Choice
+pub fn choose(table: &[u8], first: &[u8], second: &[u8]) -> Result<Chosen, Rejection>
     ensures { result ≡ choice table.now first.now second.now }
 {
-    let checked = check(table);
-    match checked {
-        Checked::Rejected(r) => Choice::Rejected(r),
-        Checked::Nodes(_) => choose_certificate(table, first, second),
-    }
+    check(table)?;
+    choose_certificate(table, first, second)
 }
 
 // The flags of the chosen certificate, one a node, as a part of its own memory; empty on a rejection.
-pub fn flags<'r>(table: &[u8], first: &'r [u8], second: &'r [u8], chosen: Choice) -> &'r [u8]
+pub fn flags<'r>(
+    table: &[u8],
+    first: &'r [u8],
+    second: &'r [u8],
+    chosen: Result<Chosen, Rejection>,
+) -> &'r [u8]
     requires { chosen ≡ choice table.now first.now second.now }
     ensures { (result.now ≡ flags_by table.now first.now second.now chosen)
         × (result.ref_ptr ≡ pointer_by first.entry.ref_ptr second.entry.ref_ptr chosen) }
 {
     let n = frame_count(table);
-    match chosen {
-        Choice::First => {
-            return &first[0..n];
-        }
-        Choice::Second => {
-            return &second[0..n];
-        }
-        Choice::Rejected(_) => {
-            return &first[0..0];
-        }
+    let Ok(which) = chosen else {
+        return &first[..0];
+    };
+    match which {
+        Chosen::First => &first[..n],
+        Chosen::Second => &second[..n],
     }
 }
 
 // A part and the choice that it belongs to.
-fn paired<'r>(flags: &'r [u8], chosen: Choice) -> Selection<'r>
+fn paired<'r>(flags: &'r [u8], chosen: Result<Chosen, Rejection>) -> Selection<'r>
     ensures { (result.flags ≡ flags.entry) × (result.choice ≡ chosen) }
 {
     Selection {
@@ -87,7 +84,7 @@ fn paired<'r>(flags: &'r [u8], chosen: Choice) -> Selection<'r>
 }
 
 // Questions 10 to 14 of each certificate by itself, for a well-formed table.
-fn choose_certificate(table: &[u8], first: &[u8], second: &[u8]) -> Choice
+fn choose_certificate(table: &[u8], first: &[u8], second: &[u8]) -> Result<Chosen, Rejection>
     requires { WellFormed table.now }
     ensures { result ≡ choice_by (flags_rejection table.now first.now)
         (flags_rejection table.now second.now)
@@ -96,20 +93,16 @@ fn choose_certificate(table: &[u8], first: &[u8], second: &[u8]) -> Choice
 {
     let of_first = check_certificate(table, first);
     let of_second = check_certificate(table, second);
-    if let Verdict::Rejected(r) = of_first {
-        if let Verdict::Value(_) = of_second {
-            return Choice::Second;
-        }
-        return Choice::Rejected(r);
+    match (of_first, of_second) {
+        (Ok(_), Ok(_)) => Ok(fewer(table, first, second)),
+        (Ok(_), Err(_)) => Ok(Chosen::First),
+        (Err(_), Ok(_)) => Ok(Chosen::Second),
+        (Err(rejection), Err(_)) => Err(rejection),
     }
-    if let Verdict::Rejected(_) = of_second {
-        return Choice::First;
-    }
-    fewer(table, first, second)
 }
 
 // The certificate with fewer flagged leaves, the first on a tie.
-fn fewer(table: &[u8], first: &[u8], second: &[u8]) -> Choice
+fn fewer(table: &[u8], first: &[u8], second: &[u8]) -> Chosen
     requires { (frames table.now ≤ length first.now) × (frames table.now ≤ length second.now) }
     ensures { result
         ≡ cond (ltb (flagged_leaves table.now second.now)
@@ -117,9 +110,9 @@ fn fewer(table: &[u8], first: &[u8], second: &[u8]) -> Choice
 {
     let of_first = flagged_leaves(table, first);
     if flagged_leaves(table, second) < of_first {
-        Choice::Second
+        Chosen::Second
     } else {
-        Choice::First
+        Chosen::First
     }
 }
 
@@ -128,14 +121,10 @@ fn flagged_leaves(table: &[u8], flags: &[u8]) -> usize
     requires { frames table.now ≤ length flags.now }
     ensures { result ≡ flagged_leaves table.now flags.now }
 {
-    let n = frame_count(table);
-    let mut leaves: usize = 0;
-    for node in 0..n {
-        if is_flagged_leaf(table, flags, node) {
-            leaves += 1;
-        }
-    }
-    leaves
+    let nodes = 0..frame_count(table);
+    nodes
+        .filter(|node| is_flagged_leaf(table, flags, *node))
+        .count()
 }
 
 // Is a node a leaf with a flag?

@@ -61,16 +61,17 @@ fn write_flags(table: &[u8], positions: &[u32], lows: &[u32], highs: &[u32], cer
 {
     certificate[0] = IN_BOTH;
     let n = frame_count(table);
-    let mut node: usize = 0;
     let mut next: usize = 1;
-    while next < n {
+    for node in 0..n {
+        if next == n {
+            break;
+        }
         let end = next + child_count(table, node);
         let flag = certificate[node];
         let others = movers_flag(side_at(positions, node), flag);
         let chosen = chosen_if_needed(positions, lows, highs, node, next, end, flag, others);
         flag_children(certificate, next, end, flag, others, chosen);
         next = end;
-        node += 1;
     }
 }
 

@@ -1,11 +1,10 @@
 -- A search, from its steps to its outcome: questions, cleared marks, the engine's marks, what `write_certificate` reads
 -- off them, and the list of the leaves.
-use Rattle.prelude.proofs.{ℕ, ◌≡◌, ap, ◌∙◌, Option, none, some, List}
+use Rattle.prelude.proofs.{ℕ, ◌≡◌, ap, ◌∙◌, Option, none, some, List, Ok, Err}
 use Rattle.lists.specs.{among}
 use Rattle.gametree.specs.{root_move_of, bound_move, flag}
 use Rattle.gametree_theory.proofs.Searches.{Deciding}
 use Rattle.table.specs.declared.Rejection.{Rejection}
-use Rattle.table.specs.declared.Checked.TheVariants.{Nodes, Rejected}
 use Rattle.table.specs.{frames, tree, valuation, WellFormed, unless, answer}
 use Rattle.table.proofs.Asked.{answer-nodes, answer-rejected}
 use Rattle.table_positions.specs.{written}
@@ -45,14 +44,14 @@ module _ {A : Type 0} (t lengths : List ℕ) (refused : Rejection → A) (given 
   questions = search_rejection t lengths
 
   -- with nodes the search is run, and its results are the outcome
-  pub finding : (n : ℕ) (x : A) → Nodes n ≡ answer (frames t) questions → x ≡ given
+  pub finding : (n : ℕ) (x : A) → Ok n ≡ answer (frames t) questions → x ≡ given
       → x ≡ unless questions refused given
   finding n x p e =
       let z : questions ≡ none = (answer-nodes (frames t) n _ p).0 in
       rw z e
 
   -- a rejection is the outcome
-  pub rejecting : (r : Rejection) → Rejected r ≡ answer (frames t) questions
+  pub rejecting : (r : Rejection) → Err r ≡ answer (frames t) questions
       → refused r ≡ unless questions refused given
   rejecting r p =
       let z : questions ≡ some r = answer-rejected (frames t) r _ p in

@@ -1,12 +1,11 @@
 -- Questions 1 to 10, for any number of buffers: they pass exactly if the table is accepted and each buffer has an entry
 -- per node, so that the shortest decides.
 use Rattle.prelude.proofs.{ℕ, ◌≤◌, ◌<◌, min, arith, dec_le, ◌≡◌, refl, ap, ◌∙◌, Bool, true, ◌&&◌, none, List, [], ◌∷◌}
+use Rattle.prelude.proofs.{Result, Ok, Err}
 use Rattle.prelude.proofs.{leb, le-leb, lt-leb, leb-true}
 use Rattle.lists.specs.{All}
 use Rattle.lists.proofs.Choice.{and_both}
 use Rattle.table.specs.declared.Rejection.{Rejection}
-use Rattle.table.specs.declared.Checked.{Checked}
-use Rattle.table.specs.declared.Checked.TheVariants.{Nodes, Rejected}
 use Rattle.table.specs.{frames, WellFormed, answer, ask, ◌and_then◌, rejection, long_enough, check10, Accepted, checked}
 use Rattle.table.proofs.Stated.{ask-yes, both-passed}
 use Rattle.table.proofs.Asked.{refused, answer-nodes, answer-rejected}
@@ -50,17 +49,18 @@ module _ (t ls : List ℕ) where
   room-passed e r = rw (e, each-long-enough (frames t) ls r)
 
   -- what the questions answer
-  abbrev pub asked : Checked
+  abbrev pub asked : Result ℕ Rejection
   asked = answer (frames t) (search_rejection t ls)
 
   -- with nodes for an answer the search may be run
-  pub nodes-long-enough : (n : ℕ) → Nodes n ≡ asked → WellFormed t × Room (frames t) ls
+  pub nodes-long-enough : (n : ℕ) → Ok n ≡ asked → WellFormed t × Room (frames t) ls
   nodes-long-enough n e =
       let p = passed-room (answer-nodes (frames t) n (search_rejection t ls) e).0 in
       (accepted-formed t p.0, p.1)
 
 -- an answer for the lesser of two lengths is the answer for both
-pub of-lesser : (t : List ℕ) (a b : ℕ) (ls : List ℕ) {r : Checked} {k : ℕ} → r ≡ asked t (k ∷ ls) → k ≡ min a b
+pub of-lesser : (t : List ℕ) (a b : ℕ) (ls : List ℕ) {r : Result ℕ Rejection} {k : ℕ} → r ≡ asked t (k ∷ ls)
+    → k ≡ min a b
     → r ≡ asked t (a ∷ b ∷ ls)
 of-lesser t a b ls e m =
     e ∙ ap (λ k. asked t (k ∷ ls)) m
@@ -68,24 +68,25 @@ of-lesser t a b ls e m =
     (room-min (frames t) a b (long_enough (frames t) ls))
 
 -- and of three
-pub of-least : (t : List ℕ) (a b c : ℕ) {r : Checked} {k l : ℕ} → r ≡ asked t (l ∷ []) → l ≡ min k c → k ≡ min a b
+pub of-least : (t : List ℕ) (a b c : ℕ) {r : Result ℕ Rejection} {k l : ℕ} → r ≡ asked t (l ∷ [])
+    → l ≡ min k c → k ≡ min a b
     → r ≡ asked t (a ∷ b ∷ c ∷ [])
 of-least t a b c e m n = of-lesser t a b (c ∷ []) (of-lesser t _ c [] e m) n
 
 -- what `ask` answers for the length of the shortest buffer
 module _ (t : List ℕ) (l : ℕ) where
   -- a rejection of the table is the first
-  pub table-refused : (r : Rejection) → Rejected r ≡ checked t → Rejected r ≡ asked t (l ∷ [])
+  pub table-refused : (r : Rejection) → Err r ≡ checked t → Err r ≡ asked t (l ∷ [])
   table-refused r e = rw (answer-rejected (frames t) r (rejection t) e)
 
   -- the shortest buffer is too short, or long enough
-  module _ (n : ℕ) (e : Nodes n ≡ checked t) where
+  module _ (n : ℕ) (e : Ok n ≡ checked t) where
     pub too_short : l < n → refused 10 0 ≡ asked t (l ∷ [])
     too_short h =
         let p = nodes-accepted t n e in
         rw (p.0, ← p.1, lt-leb n l h)
 
-    pub long-enough : n ≤ l → Nodes n ≡ asked t (l ∷ [])
+    pub long-enough : n ≤ l → Ok n ≡ asked t (l ∷ [])
     long-enough h =
         let p = nodes-accepted t n e in
         rw (p.0, ← p.1, le-leb n l h)

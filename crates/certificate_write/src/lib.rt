@@ -16,29 +16,19 @@ ghost use Rattle.certificate_write.specs.Search.{search_rejection};
 
 use certificate_bounds::fill_bounds;
 use certificate_flags::read_off;
-use table::{Checked, MAX_NODES, SHORT_BUFFER, rejected};
+use table::{MAX_NODES, Question, Rejection};
 use table_check::check;
 use table_positions::fill;
 
 // Questions 1 to 10, where the shortest lent buffer has this length: the number of nodes, or the first rejection.
-pub fn ask(table: &[u8], shortest: usize) -> Checked
+pub fn ask(table: &[u8], shortest: usize) -> Result<usize, Rejection>
     ensures { result ≡ answer (frames table.now) (search_rejection table.now (shortest ∷ [])) }
 {
-    let checked = check(table);
-    let Checked::Nodes(n) = checked else {
-        return checked;
-    };
-    if shortest < n {
-        return rejected(SHORT_BUFFER, 0);
+    let nodes = check(table)?;
+    if shortest < nodes {
+        return Err(Question::ShortBuffer.at(0));
     }
-    checked
-}
-
-// The lesser of two lengths.
-pub fn lesser(a: usize, b: usize) -> usize
-    ensures { result ≡ min a b }
-{
-    if a < b { a } else { b }
+    Ok(nodes)
 }
 
 // The certificate (01: the proof) read off the bounds of the marked leaves, into the buffer's first entries; the result

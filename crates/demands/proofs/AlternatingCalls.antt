@@ -2,6 +2,7 @@
 -- of then. All that a search gives and leaves follows from the tree (`gives-exactly` and `leaves-exactly` in Demand2,
 -- `same-bounds` in Plain).
 use Rattle.prelude.proofs.{ℕ, ◌<◌, arith, ◌≡◌, refl, ap, ap₂, ◌∙◌, Option, none, some, List, [], ◌∷◌, ◌++◌, length}
+use Rattle.prelude.proofs.{Ok, Err}
 use Rattle.prelude.proofs.{drop}
 use Rattle.gametree.specs.declared.Side.{Side}
 use Rattle.gametree.specs.declared.Side.TheVariants.{Max, Min}
@@ -9,7 +10,6 @@ use Rattle.gametree.specs.{Tree}
 use Rattle.table.specs.{frames, tree, valuation, ask, ◌and_then◌, unless, ◌leaving◌, Accepted, check1, check10}
 use Rattle.table.specs.{Alternating, zero_rejection, tree_by_depth}
 use Rattle.table.specs.declared.Rejection.{Rejection}
-use Rattle.table.specs.declared.Checked.TheVariants.{Nodes, Rejected}
 use Rattle.table.proofs.Acceptance.{accepted-formed}
 use Rattle.table.proofs.Sides.{each_same, frames-before, rejection-before, side-parity, tree-before}
 use Rattle.file_line.specs.{decoded}
@@ -54,12 +54,12 @@ module _ (f : List ℕ) (p : Alternating (decoded f)) where
 
   -- and so the reader answers what it answered, and leaves what it left
   pub alternating-read : (table : List ℕ) → read_outcome f table
-      ≡ unless (zero_file f and_then file_check10 f table) (λ r. Rejected r leaving table)
-      (Nodes (frames (decoded f)) leaving (decoded f ++ drop (length (decoded f)) table))
+      ≡ unless (zero_file f and_then file_check10 f table) (λ r. Err r leaving table)
+      (Ok (frames (decoded f)) leaving (decoded f ++ drop (length (decoded f)) table))
   unfolding read_rejection
   alternating-read table =
-      ap (λ x. unless (x and_then file_check10 f table) (λ r. Rejected r leaving table)
-      (Nodes (frames (decoded f)) leaving (decoded f ++ drop (length (decoded f)) table))) alternating-file
+      ap (λ x. unless (x and_then file_check10 f table) (λ r. Err r leaving table)
+      (Ok (frames (decoded f)) leaving (decoded f ++ drop (length (decoded f)) table))) alternating-file
 
   -- and the program prints what it printed
   abbrev printed_by : Option Rejection → Tree → List ℕ

@@ -5,9 +5,9 @@
 -- `convert-keeps` in TheSentence.antt. "a small letter a to f in a line, 16, place the first such line":
 -- `lowest-small` in Demand1.antt.
 use Rattle.prelude.proofs.{ℕ, ◌*◌, ◌≤◌, ◌<◌, arith, ◌≡◌, refl, sym, ap, ◌∙◌, ◌↔◌, true, not, Option, none, some, List}
+use Rattle.prelude.proofs.{Ok, Err}
 use Rattle.prelude.proofs.{[], ◌++◌, length, get_or, take, drop}
 use Rattle.table.specs.declared.Rejection.{Rejection}
-use Rattle.table.specs.declared.Checked.TheVariants.{Rejected as RejectedTable}
 use Rattle.table.specs.{frames, ◌and_then◌, unless, ◌leaving◌, check1}
 use Rattle.table.proofs.Stated.{both-passed, passed_then}
 use Rattle.table.proofs.Acceptance.{accepted-stated}
@@ -16,7 +16,6 @@ use Rattle.file_read.specs.{max_file, file_check2, file_check3, file_check16, fi
 use Rattle.file_read.specs.{read_outcome}
 use Rattle.file_read.proofs.FirstLine.{line-asked}
 use Rattle.file_write.specs.{file_of}
-use Rattle.file_write.specs.declared.Written.TheVariants.{Length}
 use Rattle.file.proofs.RoundTrip.{written-length}
 use Rattle.file_convert.specs.declared.Printed.TheVariants.{File, Line}
 use Rattle.file_convert.specs.{raised, convert_outcome, output_outcome, base_rejection, Converted}
@@ -32,7 +31,7 @@ module _ (f : List ℕ) where
       → i < length (lines_of f)
       → has_lowercase (get_or (lines_of f) i []) ≡ true
       → (r : Rejection) × (file_check16 f ≡ some r) × ((table : List ℕ)
-      → (read_outcome f table).answer ≡ RejectedTable r)
+      → (read_outcome f table).answer ≡ Err r)
   unfolding read_rejection file_rejection
   small-refused e i h s =
       let a = both-passed (check1 f) _ e in
@@ -61,13 +60,13 @@ module _ (f : List ℕ) where
   module _ (buffer : List ℕ) where
     -- a file that the base accepted is converted, into any buffer that has room for a longest file
     pub length-converted : base_rejection f ≡ none → max_file ≤ length buffer
-        → (convert_outcome f buffer).answer ≡ Length (line_size * frames (decoded f))
+        → (convert_outcome f buffer).answer ≡ Ok (line_size * frames (decoded f))
     length-converted e room =
         let at_most = (accepted-stated (decoded f) (base-table f e)).most in
         ap (λ o. o.answer) (convert_gives f buffer e (omega arith))
 
     -- only such a file is; its own table's file stands then at the buffer's front
-    pub file-converted : (n : ℕ) → (convert_outcome f buffer).answer ≡ Length n → Converted f buffer n
+    pub file-converted : (n : ℕ) → (convert_outcome f buffer).answer ≡ Ok n → Converted f buffer n
     file-converted = convert-leaves f buffer
 
     -- "it prints 01's `refused` line only": in a buffer with room for every file, what is printed for a file that the
@@ -88,16 +87,16 @@ module _ (f : List ℕ) where
             (sym (written-length (decoded f) (base-table f e)))
         by (some r) e = line-printed f buffer room r e
 
-    module _ (n : ℕ) (e : (convert_outcome f buffer).answer ≡ Length n) where
+    module _ (n : ℕ) (e : (convert_outcome f buffer).answer ≡ Ok n) where
       -- converting it once more changes nothing
       pub converted-twice : (other : List ℕ) → n ≤ length other →
           let new = take n (convert_outcome f buffer).left in
-          convert_outcome new other ≡ Length n leaving (new ++ drop n other)
+          convert_outcome new other ≡ Ok n leaving (new ++ drop n other)
       converted-twice = converted-again f buffer n e
 
 -- "the same tree .. is filed twice": no more; two files are converted to one file, byte for byte, exactly if they have
 -- one table
-pub one-file-each : (f g buffer other : List ℕ) (n m : ℕ) → (convert_outcome f buffer).answer ≡ Length n
-    → (convert_outcome g other).answer ≡ Length m
+pub one-file-each : (f g buffer other : List ℕ) (n m : ℕ) → (convert_outcome f buffer).answer ≡ Ok n
+    → (convert_outcome g other).answer ≡ Ok m
     → (decoded f ≡ decoded g) ↔ (take n (convert_outcome f buffer).left ≡ take m (convert_outcome g other).left)
 one-file-each = converted-once

@@ -1,7 +1,6 @@
 -- A tree that is too deep, by each call (02: N2); for `deeper-refused` in Sentences.antt.
-use Rattle.prelude.proofs.{ℕ, ◌<◌, ◌≡◌, ◌∙◌, none, some, List}
+use Rattle.prelude.proofs.{ℕ, ◌<◌, ◌≡◌, ◌∙◌, none, some, List, Err}
 use Rattle.table.specs.declared.Rejection.{Rejection}
-use Rattle.table.specs.declared.Checked.TheVariants.{Rejected as RejectedTable}
 use Rattle.table.specs.{max_depth, frames, depth_of, ◌and_then◌, check1, nodes_rejection, check8, checked, LowestDeep}
 use Rattle.table.specs.{rejection_before9}
 use Rattle.table.proofs.Stated.{both-passed, passed_then}
@@ -15,7 +14,7 @@ use Rattle.certificate_check.specs.{certificate_rejection}
 -- 02, N2: "Deeper trees are answered with 9": a table by the check, by every search, by the check of certificates and
 -- by the writer
 pub deeper-answered : (t : List ℕ) → rejection_before9 t ≡ none → (k : ℕ) → k < frames t → max_depth < depth_of t k
-    → (r : Rejection) × LowestDeep t r × (checked t ≡ RejectedTable r)
+    → (r : Rejection) × LowestDeep t r × (checked t ≡ Err r)
     × ((lengths : List ℕ) → search_rejection t lengths ≡ some r)
     × ((flags : List ℕ) → certificate_rejection t flags ≡ some r) × ((room : ℕ) → write_rejection t room ≡ some r)
 unfolding certificate_rejection write_rejection
@@ -29,7 +28,7 @@ pub deeper-read : (f : List ℕ)
     (decoded f)
     and_then check8 (decoded f)) ≡ none
     → (k : ℕ) → k < frames (decoded f) → max_depth < depth_of (decoded f) k
-    → (r : Rejection) × LowestDeep (decoded f) r × ((table : List ℕ) → (read_outcome f table).answer ≡ RejectedTable r)
+    → (r : Rejection) × LowestDeep (decoded f) r × ((table : List ℕ) → (read_outcome f table).answer ≡ Err r)
 unfolding read_rejection file_rejection
 deeper-read f e k l d =
     let a = both-passed (check1 f) _ e in

@@ -1,11 +1,10 @@
 -- Demand 1, sentence by sentence. "each public entry takes whatever bytes it is lent, stays inside them, finishes":
 -- Contracts.antt says it of each entry.
-use Rattle.prelude.proofs.{ℕ, ◌<◌, ◌≡◌, sym, Bool, not, Option, none, some, List, [], leb, length, get_or}
+use Rattle.prelude.proofs.{ℕ, ◌<◌, ◌≡◌, sym, Bool, not, Option, none, some, List, [], leb, length, get_or, Err}
 use Rattle.lists.proofs.Choice.{clash}
 use Rattle.gametree.specs.declared.Side.TheVariants.{Max, Min}
 use Rattle.gametree.specs.{in_both}
 use Rattle.table.specs.declared.Rejection.{Rejection}
-use Rattle.table.specs.declared.Checked.TheVariants.{Rejected as RejectedTable}
 use Rattle.table.specs.{frames, ask, check_node, nodes_rejection, depths_rejection, rejection, checked, LowestNo}
 use Rattle.table.specs.{LowestDeep}
 use Rattle.table.proofs.Acceptance.{rejected-first}
@@ -13,22 +12,21 @@ use Rattle.table.proofs.FirstNo.{lowest-no, nodes-first, depth-first}
 use Rattle.file_line.specs.{is_line, has_lowercase, lines_of}
 use Rattle.file_read.specs.{each_line, file_check3, file_check16}
 use Rattle.file_read.proofs.FirstLine.{line_first}
-use Rattle.certificate_check.specs.declared.Verdict.TheVariants.{Rejected as RejectedFlags}
 use Rattle.certificate_check.specs.{rule_holds, check11, check_tree, certificate_rejection, judged, verdict}
 
 -- "and gives a result or one numbered refusal with its place": a refusal is the first "no" to the questions that the
 -- call puts. Of each call that is lent memory to change: `keeps` and its like in TheSentence.antt, which say that the
 -- memory is then as it was
 
-pub first-table : (t : List ℕ) (r : Rejection) → checked t ≡ RejectedTable r → rejection t ≡ some r
+pub first-table : (t : List ℕ) (r : Rejection) → checked t ≡ Err r → rejection t ≡ some r
 first-table t r e = rejected-first t r (sym e)
 
-pub first-certificate : (t flags : List ℕ) (r : Rejection) → verdict t flags ≡ RejectedFlags r
+pub first-certificate : (t flags : List ℕ) (r : Rejection) → verdict t flags ≡ Err r
     → certificate_rejection t flags ≡ some r
 unfolding verdict
 first-certificate t flags r e = by-questions (certificate_rejection t flags) e
   where
-    by-questions : (q : Option Rejection) → judged t flags q ≡ RejectedFlags r → q ≡ some r
+    by-questions : (q : Option Rejection) → judged t flags q ≡ Err r → q ≡ some r
     by-questions none e = clash (cc)
     by-questions (some x) e = cc
 

@@ -1,8 +1,7 @@
 -- Demand 2: what is said beside the headline sentences (`minimax-value`, `first-move`, `solution-trees` and `checker`
 -- in TheSentence, `rule-leaves` and `gives` in Sentences), of the searches as they run.
-use Rattle.prelude.proofs.{ℕ, ◌+◌, ◌*◌, ◌≤◌, ◌<◌, arith, ◌≡◌, sym, ap, ◌∙◌, List, length}
+use Rattle.prelude.proofs.{ℕ, ◌+◌, ◌*◌, ◌≤◌, ◌<◌, arith, ◌≡◌, sym, ap, ◌∙◌, List, length, Ok}
 use Rattle.gametree_theory.proofs.Within.{evaluations-count, full-few}
-use Rattle.table.specs.declared.Checked.TheVariants.{Nodes}
 use Rattle.table.specs.{frame_size, frames, byte_of, child_count, depth_of, tree, valuation, value_of, signed, worth}
 use Rattle.table.specs.{Accepted}
 use Rattle.table.proofs.Acceptance.{accepted-formed, nodes-accepted}
@@ -13,7 +12,6 @@ use Rattle.table.proofs.Values.{value-stored}
 use Rattle.table_check.proofs as table_check
 use Rattle.table_check.specs.contracts as table_check'
 use Rattle.certificate_write.specs.{marks_of, flags_of, listed}
-use Rattle.certificate_check.specs.declared.Verdict.TheVariants.{Value}
 use Rattle.certificate_check.specs.{verdict}
 use Rattle.methods.specs.declared.Findings.{Findings}
 use Rattle.methods.specs.declared.Spent.{Spent as Spending}
@@ -59,15 +57,15 @@ leaves-exactly =
 
 -- the checker accepts what each search hands back, and gives the value that the search found
 pub verified : EverySearch (λ c. (g : Findings) → c.answer ≡ Found g
-    → verdict c.table c.left.flags ≡ Value g.value)
+    → verdict c.table c.left.flags ≡ Ok g.value)
 verified = every (λ c s g e.
-    flags-verified (handed c s g e) ∙ ap Value (sym (ap (λ x. x.value) (views.findings c s g e))))
+    flags-verified (handed c s g e) ∙ ap Ok (sym (ap (λ x. x.value) (views.findings c s g e))))
 
 -- "Guessing past the leaves was never wanted, so the value is that of the tree handed over": `tree t` is the tree that
 -- the frames of the table describe (table/proofs/TreeOfTable.antt), and a leaf counts with the worth, at its depth, of
 -- the number that its bytes 4 and 5 hold in two's complement
 pub leaf-worth : Runs table_check'.check.ended (function table_check.check.Symbol.name table_check.check.Symbol.code)
-    (λ κs (t, _) r e. (n : ℕ) → r ≡ Nodes n → (i : ℕ) → i < frames t.now → child_count t.now i ≡ 0
+    (λ κs (t, _) r e. (n : ℕ) → r ≡ Ok n → (i : ℕ) → i < frames t.now → child_count t.now i ≡ 0
     → value_of (valuation t.now i)
     ≡ worth (depth_of t.now i) (signed (byte_of t.now i 4) (byte_of t.now i 5)))
 leaf-worth =

@@ -26,9 +26,8 @@ use Rattle.buulset.proofs as buulset
 use Rattle.buulset.specs.contracts as buulset'
 use Rattle.buulset.specs.{version, flat_children, part_of, flat_by}
 use Rattle.buulset_answers.specs.declared.Answer.{Answer}
-use Rattle.buulset_flat.specs.{flat_checked, flat_written, flat_printed, flat_answer, flat_plain, flat_filled}
-use Rattle.buulset_flat.specs.{flat_verdict}
-use Rattle.buulset_flat.specs.{flat_least_value, flat_least, flat_choice, flat_line, flat_text, flat_best_line}
+use Rattle.buulset_answers.specs.{counted, valued, lined, moved}
+use Rattle.buulset_flat.specs.{flat, flat_printed, flat_answer, flat_choice, flat_line, flat_text}
 use Rattle.demands.specs.Runs.{Runs, function}
 use Rattle.demands.specs.{RunBoth, Call, Given}
 use Rattle.demands.proofs.Running.{together, Says}
@@ -45,7 +44,7 @@ exported-version = record { meets = buulset.buulset_version.Met.met _ }
 
 pub exported-read : Runs buulset'.buulset_read.ended (function buulset.buulset_read.Symbol.name
     buulset.buulset_read.Symbol.code)
-    (λ κs (f, (t, _)) r (_, (t', _)). r leaving t'.now ≡ flat_by flat_checked (read_outcome f.now t.now))
+    (λ κs (f, (t, _)) r (_, (t', _)). r leaving t'.now ≡ flat_by (flat counted) (read_outcome f.now t.now))
 exported-read = record { meets = buulset.buulset_read.Met.met _ }
 
 pub exported-read-line : Runs buulset'.buulset_read_line.ended
@@ -60,12 +59,12 @@ exported-digit = record { meets = buulset.buulset_digit.Met.met _ }
 
 pub exported-write : Runs buulset'.buulset_write.ended (function buulset.buulset_write.Symbol.name
     buulset.buulset_write.Symbol.code)
-    (λ κs (t, (f, _)) r (_, (f', _)). r leaving f'.now ≡ flat_by flat_written (write_outcome t.now f.now))
+    (λ κs (t, (f, _)) r (_, (f', _)). r leaving f'.now ≡ flat_by (flat counted) (write_outcome t.now f.now))
 exported-write = record { meets = buulset.buulset_write.Met.met _ }
 
 pub exported-convert : Runs buulset'.buulset_convert.ended (function buulset.buulset_convert.Symbol.name
     buulset.buulset_convert.Symbol.code)
-    (λ κs (f, (b, _)) r (_, (b', _)). r leaving b'.now ≡ flat_by flat_written (convert_outcome f.now b.now))
+    (λ κs (f, (b, _)) r (_, (b', _)). r leaving b'.now ≡ flat_by (flat counted) (convert_outcome f.now b.now))
 exported-convert = record { meets = buulset.buulset_convert.Met.met _ }
 
 pub exported-capitals : Runs buulset'.buulset_capitals.ended (function buulset.buulset_capitals.Symbol.name
@@ -75,7 +74,7 @@ exported-capitals = record { meets = buulset.buulset_capitals.Met.met _ }
 
 pub exported-check : Runs buulset'.buulset_check.ended (function buulset.buulset_check.Symbol.name
     buulset.buulset_check.Symbol.code)
-    (λ κs (t, _) r e. r ≡ flat_checked (checked t.now))
+    (λ κs (t, _) r e. r ≡ flat counted (checked t.now))
 exported-check = record { meets = buulset.buulset_check.Met.met _ }
 
 pub exported-children : Runs buulset'.buulset_children.ended (function buulset.buulset_children.Symbol.name
@@ -112,14 +111,13 @@ exported-sss = record { meets = buulset.buulset_sss.Met.met _ }
 pub exported-plain : Runs buulset'.buulset_plain.ended (function buulset.buulset_plain.Symbol.name
     buulset.buulset_plain.Symbol.code)
     (λ κs (t, (m, (f, _))) r (_, (m', (f', _))). r leaving lent m'.now f'.now []
-    ≡ flat_by flat_plain (plain_outcome t.now (lent m.now f.now [])))
+    ≡ flat_by (flat moved) (plain_outcome t.now (lent m.now f.now [])))
 exported-plain = record { meets = buulset.buulset_plain.Met.met _ }
 
 -- what an export of a search is called with, gives and leaves, as a call of the search
 exported-call : (w : Method) (t : List ℕ) (l l' : Lent) (r : Answer)
     → r leaving l' ≡ flat_by flat_answer (search_outcome w t l)
     → (c : Call) × (c.method ≡ w) × (c.table ≡ t) × (c.left ≡ l') × Says c × (r.refused ≡ 0 → Given c)
-unfolding flat_answer
 exported-call w t l l' r e =
     let o = search_outcome w t l in
     let c : Call = record { method = w; table = t; lent = l; answer = o.answer; left = o.left } in (
@@ -153,12 +151,12 @@ exported-sentence =
 
 pub exported-line : Runs buulset'.buulset_line.ended (function buulset.buulset_line.Symbol.name
     buulset.buulset_line.Symbol.code)
-    (λ κs (t, (l, _)) r (_, (l', _)). r leaving l'.now ≡ flat_by flat_best_line (line_outcome t.now l.now))
+    (λ κs (t, (l, _)) r (_, (l', _)). r leaving l'.now ≡ flat_by (flat lined) (line_outcome t.now l.now))
 exported-line = record { meets = buulset.buulset_line.Met.met _ }
 
 pub exported-verify : Runs buulset'.buulset_verify.ended (function buulset.buulset_verify.Symbol.name
     buulset.buulset_verify.Symbol.code)
-    (λ κs (t, (f, _)) r e. r ≡ flat_verdict (verdict t.now f.now))
+    (λ κs (t, (f, _)) r e. r ≡ flat valued (verdict t.now f.now))
 exported-verify = record { meets = buulset.buulset_verify.Met.met _ }
 
 pub exported-shorter : Runs buulset'.buulset_shorter.ended (function buulset.buulset_shorter.Symbol.name
@@ -172,22 +170,22 @@ exported-shorter = record { meets = buulset.buulset_shorter.Met.met _ }
 pub exported-graft : Runs buulset'.buulset_graft.ended (function buulset.buulset_graft.Symbol.name
     buulset.buulset_graft.Symbol.code)
     (λ κs (t, (k, (u, (b, _)))) r (_, (_, (_, (b', _)))).
-    r leaving b'.now ≡ flat_by flat_checked (graft_outcome t.now k u.now b.now))
+    r leaving b'.now ≡ flat_by (flat counted) (graft_outcome t.now k u.now b.now))
 exported-graft = record { meets = buulset.buulset_graft.Met.met _ }
 
 pub exported-least-value : Runs buulset'.buulset_least_value.ended
     (function buulset.buulset_least_value.Symbol.name buulset.buulset_least_value.Symbol.code)
-    (λ κs (t, (k, (w, _))) r e. r ≡ flat_least_value (least_value t.now k w))
+    (λ κs (t, (k, (w, _))) r e. r ≡ flat valued (least_value t.now k w))
 exported-least-value = record { meets = buulset.buulset_least_value.Met.met _ }
 
 pub exported-fill : Runs buulset'.buulset_fill.ended (function buulset.buulset_fill.Symbol.name
     buulset.buulset_fill.Symbol.code)
-    (λ κs (t, _) r (t', _). r leaving t'.now ≡ flat_by flat_filled (fill_outcome t.now))
+    (λ κs (t, _) r (t', _). r leaving t'.now ≡ flat_by (flat counted) (fill_outcome t.now))
 exported-fill = record { meets = buulset.buulset_fill.Met.met _ }
 
 pub exported-least-leaves : Runs buulset'.buulset_least_leaves.ended
     (function buulset.buulset_least_leaves.Symbol.name buulset.buulset_least_leaves.Symbol.code)
-    (λ κs (w, (d, _)) r e. r ≡ flat_least (least_answer w d))
+    (λ κs (w, (d, _)) r e. r ≡ flat counted (least_answer w d))
 exported-least-leaves = record { meets = buulset.buulset_least_leaves.Met.met _ }
 
 -- texts

@@ -1,6 +1,6 @@
 -- No result counts fewer leaves than the smallest pair has, nor fewer than the entry of a regular table: for
 -- `smallest-pair` and `counts-no-fewer` in Sentences.antt.
-use Rattle.prelude.proofs.{ℕ, ◌≤◌, arith, ◌≡◌, ap, Bool, List}
+use Rattle.prelude.proofs.{ℕ, ◌≤◌, arith, ◌≡◌, ap, Bool, List, Ok}
 use Rattle.gametree.specs.{Smallest, pair_leaves}
 use Rattle.gametree_theory.proofs.Minimax.Counts.{pair_leaves-all}
 use Rattle.gametree_theory.proofs.Theorems.{search-smallest}
@@ -11,7 +11,6 @@ use Rattle.methods.specs.declared.Answer.TheVariants.{Found}
 use Rattle.methods.specs.{Lent}
 use Rattle.methods.proofs.Rules as rules
 use Rattle.plain.specs.declared.PlainResult.{PlainResult}
-use Rattle.least_count.specs.declared.Least.TheVariants.{Leaves}
 use Rattle.least_count.specs.{least_answer}
 use Rattle.demands.specs.{Call}
 use Rattle.demands.proofs.Running.{Says, PlainSays}
@@ -29,7 +28,7 @@ module _ (c : Call) (s : Says c) (f : Findings) (e : c.answer ≡ Found f) where
       (search-smallest (valuation c.table) (tree c.table) (proper (handed c s f e)) g h m
       (rules.searched c.method c.table (views.nothing-beyond c s f e)))
 
-  pub no-fewer : (w d n : ℕ) → RegularTable w d c.table → least_answer w d ≡ Leaves n → n ≤ f.leaves
+  pub no-fewer : (w d n : ℕ) → RegularTable w d c.table → least_answer w d ≡ Ok n → n ≤ f.leaves
   no-fewer w d n r i =
       let a = (handed c s f e).accepted in
       let p = pair-exists c.table a in
@@ -41,7 +40,7 @@ module _ (c : Call) (s : Says c) (f : Findings) (e : c.answer ≡ Found f) where
 
 -- nor does the plain engine mark fewer
 pub no-fewer-plain : (t : List ℕ) (f : PlainResult) (l l' : Lent) → PlainSays t l f l' → (w d n : ℕ)
-    → RegularTable w d t → least_answer w d ≡ Leaves n → n ≤ ones l'.marks (frames t)
+    → RegularTable w d t → least_answer w d ≡ Ok n → n ≤ ones l'.marks (frames t)
 no-fewer-plain t f l l' s w d n r i =
     let a = plain-accepted t f l l' s in
     let p = pair-exists t a in

@@ -1,5 +1,5 @@
 -- What is proved of alpha-beta on a table that was filled, for `costs-most` in Sentences.antt.
-use Rattle.prelude.proofs.{ℕ, ◌≤◌, ◌<◌, arith, ◌≡◌, sym, ap, ap₂, ◌∙◌, subst, cond, List, eqb, length, get_or}
+use Rattle.prelude.proofs.{ℕ, ◌≤◌, ◌<◌, arith, ◌≡◌, sym, ap, ap₂, ◌∙◌, subst, cond, List, eqb, length, get_or, Ok}
 use Rattle.lists.specs.{among}
 use Rattle.lists.proofs.Lists.{sub-length}
 use Rattle.gametree.specs.{leaves}
@@ -12,7 +12,6 @@ use Rattle.methods.specs.declared.Findings.{Findings}
 use Rattle.methods.specs.declared.Answer.TheVariants.{Found}
 use Rattle.methods.specs.{evaluated_by}
 use Rattle.plain.proofs.Leaves.{leaves-are}
-use Rattle.worst_fill.specs.declared.Filled.TheVariants.{Leaves}
 use Rattle.worst_fill.specs.{fill_outcome, handed}
 use Rattle.worst_fill.proofs.Whole.{fill-given}
 use Rattle.worst_fill.proofs.WorstFill.{worst-reached}
@@ -22,7 +21,7 @@ use Rattle.demands.proofs.Views as views
 use Rattle.demands.proofs.Handed.{leaves_by, marking, marks-at}
 use Rattle.demands.proofs.WorstFill.{only-accepted, leaf-count, filled-shape}
 
-module _ (t : List ℕ) (n : ℕ) (e : (fill_outcome t).answer ≡ Leaves n) where
+module _ (t : List ℕ) (n : ℕ) (e : (fill_outcome t).answer ≡ Ok n) where
   all-leaves : evaluated_by AlphaBeta (handed t) ≡ leaves (tree t)
   all-leaves =
       subst (λ u. evaluated_by AlphaBeta u ≡ leaves (tree t)) (sym (fill-given t n e).2)

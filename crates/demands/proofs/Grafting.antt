@@ -3,11 +3,11 @@
 -- a call that gives n nodes is `handed t k u b n`. Its minimax value: `graft-value` in Sentences.antt; a refusal:
 -- `graft-keeps` in TheSentence.antt.
 use Rattle.prelude.proofs.{ℕ, ◌+◌, ◌-◌, ◌*◌, ◌≤◌, ◌<◌, arith, dec_le, ◌≡◌, ap, ◌⊎◌, inl, inr, ◌↔◌, some, List, ◌++◌}
+use Rattle.prelude.proofs.{Ok, Err}
 use Rattle.prelude.proofs.{length, get_or, drop}
 use Rattle.gametree.specs.declared.Side.TheVariants.{Max}
 use Rattle.gametree.specs.{other, relabelled}
 use Rattle.table.specs.declared.Rejection.{Rejection}
-use Rattle.table.specs.declared.Checked.TheVariants.{Nodes, Rejected}
 use Rattle.table.specs.{frame_size, max_nodes, max_depth, frames, byte_of, child_count, parent_of, depth_of, side_of}
 use Rattle.table.specs.{tree}
 use Rattle.table.specs.{rejection, Accepted}
@@ -34,10 +34,10 @@ module _ (t : List ℕ) (k : ℕ) (u b : List ℕ) where
   -- "Add a call that puts the second tree in that leaf's place, .. and gives its number of nodes": with room there is
   -- one
   pub nodes-given : Graftable t k u → frame_size * graft_size t u ≤ length b
-      → (graft_outcome t k u b).answer ≡ Nodes (graft_size t u)
+      → (graft_outcome t k u b).answer ≡ Ok (graft_size t u)
   nodes-given = graft-gives t k u b
 
-  module _ (n : ℕ) (e : (graft_outcome t k u b).answer ≡ Nodes n) where
+  module _ (n : ℕ) (e : (graft_outcome t k u b).answer ≡ Ok n) where
     -- only what can be grafted gets one
     pub only-graftable : Graftable t k u
     only-graftable = given-graftable t k u b n e
@@ -65,22 +65,22 @@ module _ (t : List ℕ) (k : ℕ) (u b : List ℕ) where
     rest-kept = grafted-rest t k u b n e
 
   -- "The tables are questioned in turn, the first before the second"
-  pub first-in-turn : (r : Rejection) → rejection t ≡ some r → (graft_outcome t k u b).answer ≡ Rejected r
+  pub first-in-turn : (r : Rejection) → rejection t ≡ some r → (graft_outcome t k u b).answer ≡ Err r
   first-in-turn = graft-first t k u b
 
   pub second-in-turn : (r : Rejection) → Accepted t → rejection u ≡ some r
-      → (graft_outcome t k u b).answer ≡ Rejected r
+      → (graft_outcome t k u b).answer ≡ Err r
   second-in-turn = graft-second t k u b
 
   -- "the named node is no leaf with Max to move, 17, place the node as named"
   pub no-max-leaf : Accepted t → Accepted u → (MaxLeaf t k → ⊥)
-      → (graft_outcome t k u b).answer ≡ Rejected (record { number = 17; place = k })
+      → (graft_outcome t k u b).answer ≡ Err (record { number = 17; place = k })
   no-max-leaf = graft-no-leaf t k u b
 
   -- "a result of more than 4,096 nodes or 18 plies, 18, place 0", where 17 passes: a node of the second tree would
   -- stand deeper in the result; and 18 is given in no other case
   pub too_large : Accepted t → Accepted u → MaxLeaf t k
-      → ((graft_outcome t k u b).answer ≡ Rejected (record { number = 18; place = 0 }))
+      → ((graft_outcome t k u b).answer ≡ Err (record { number = 18; place = 0 }))
       ↔ ((max_nodes < graft_size t u) ⊎ ((v : ℕ) × (v < frames u) × (max_depth < depth_of t k + depth_of u v)))
   too_large a c l = (
     λ e. elim (dec_le (graft_size t u) max_nodes) [
@@ -101,7 +101,7 @@ module _ (t : List ℕ) (k : ℕ) (u b : List ℕ) where
 
   -- so a result that would not be an accepted table gets 18, and where it would be one, 18 passes
   pub unaccepted-result : Accepted t → Accepted u → MaxLeaf t k → (Accepted (graft_table t k u) → ⊥)
-      → (graft_outcome t k u b).answer ≡ Rejected (record { number = 18; place = 0 })
+      → (graft_outcome t k u b).answer ≡ Err (record { number = 18; place = 0 })
   unaccepted-result = graft-too-large t k u b
 
   pub accepted-result : Accepted t → Accepted u → MaxLeaf t k → Accepted (graft_table t k u) → Graftable t k u
@@ -109,5 +109,5 @@ module _ (t : List ℕ) (k : ℕ) (u b : List ℕ) where
 
   -- "before 10, which wants six bytes for each node of the result"
   pub short-result : Graftable t k u → length b < frame_size * graft_size t u
-      → (graft_outcome t k u b).answer ≡ Rejected (record { number = 10; place = 0 })
+      → (graft_outcome t k u b).answer ≡ Err (record { number = 10; place = 0 })
   short-result = graft-short t k u b

@@ -1,5 +1,5 @@
 -- What is handed back in the buffers: the theory's theorems, carried to the bytes.
-use Rattle.prelude.proofs.{ℕ, ◌≤◌, ◌<◌, ◌≡◌, sym, ap, ◌∙◌, true, cond, List, length, get_or, take, take-append_seam}
+use Rattle.prelude.proofs.{ℕ, ◌≤◌, ◌<◌, ◌≡◌, sym, ap, ◌∙◌, true, cond, List, length, get_or, take, take-append_seam, Ok}
 use Rattle.prelude.proofs.{eq-eqb}
 use Rattle.gametree.specs.declared.Side.{Side}
 use Rattle.gametree.specs.declared.Side.TheVariants.{Max, Min}
@@ -19,7 +19,6 @@ use Rattle.table_positions.proofs.Buffers.{written_at}
 use Rattle.certificate_bounds.specs.{mark, marked, ones}
 use Rattle.certificate_write.specs.{marks_of, flags_of}
 use Rattle.certificate_write.proofs.Marks.{marked-written}
-use Rattle.certificate_check.specs.declared.Verdict.TheVariants.{Value}
 use Rattle.certificate_check.specs.{verdict, member}
 use Rattle.certificate_check.specs.Certificate.{Certificate}
 use Rattle.certificate_check.proofs.Theorems.{certificate-verdict}
@@ -114,7 +113,7 @@ module _ {t w : List ℕ} {lent left : Lent} (handed : HandedBack t w lent left)
       }
 
   -- the check of certificates accepts them, and gives the minimax value
-  pub flags-verified : verdict t left.flags ≡ Value (value_of (minimax (valuation t) (tree t)))
+  pub flags-verified : verdict t left.flags ≡ Ok (value_of (minimax (valuation t) (tree t)))
   flags-verified = certificate-verdict t left.flags _ certificate
 
 -- the leaves that a call evaluates

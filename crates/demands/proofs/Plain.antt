@@ -2,17 +2,15 @@
 -- Max's turn asks Min's turn for each child, and Min's asks Max's": `max_turn` and `min_turn` in plain/src/lib.rt. "It
 -- is proved equal to alpha-beta in both for every accepted tree": `plain-agrees` in Sentences. A refusal is the first
 -- "no" to questions 1 to 10, and leaves the buffers as they were: `plain-keeps` in TheSentence.
-use Rattle.prelude.proofs.{ℕ, ◌≤◌, ◌<◌, ◌≡◌, sym, ap, ◌∙◌, cond, [], ◌∷◌, eqb, length, get_or}
+use Rattle.prelude.proofs.{ℕ, ◌≤◌, ◌<◌, ◌≡◌, sym, ap, ◌∙◌, cond, [], ◌∷◌, eqb, length, get_or, Ok}
 use Rattle.gametree.specs.{minimax, root_move_of}
 use Rattle.table.specs.{frames, child_count, tree, valuation, value_of, Accepted}
 use Rattle.certificate_bounds.specs.{ones}
 use Rattle.certificate_write.specs.{flags_of}
 use Rattle.certificate_write.proofs.Questions.{room-passed}
-use Rattle.certificate_check.specs.declared.Verdict.TheVariants.{Value}
 use Rattle.certificate_check.specs.{verdict}
 use Rattle.plain.proofs as plain
 use Rattle.plain.specs.contracts as plain'
-use Rattle.plain.specs.declared.PlainAnswer.TheVariants as plain-answer
 use Rattle.plain.specs.{all_leaves, plain_found}
 use Rattle.demands.specs.Runs.{Runs, function}
 use Rattle.demands.specs.{EachPlain, CertifiedBy}
@@ -24,7 +22,7 @@ use Rattle.demands.proofs.PlainCalls as calls
 -- "and gives value and move": with an accepted table and room in what is lent there is a result
 pub plain-gives : Runs plain'.search.ended (function plain.search.Symbol.name plain.search.Symbol.code)
     (λ κs (t, (m, (f, _))) r e. Accepted t.now → frames t.now ≤ length m.now
-    → frames t.now ≤ length f.now → r ≡ plain-answer.Found (plain_found t.now))
+    → frames t.now ≤ length f.now → r ≡ Ok (plain_found t.now))
 plain-gives =
     follows contracts.plain-search (λ κs (t, (m, (f, _))) r e s a h k.
     ap (λ x. x.answer) s ∙ rw (room-passed t.now (length m.now ∷ length f.now ∷ []) a (h, (k, tt))))
@@ -58,6 +56,6 @@ pub plain-certified : EachPlain (λ t g _ l. CertifiedBy t l)
 plain-certified = each-plain (λ t g l l' s. flags-certify (calls.plain-handed t g l l' s))
 
 -- the check of certificates accepts them, and gives the value found
-pub plain-verified : EachPlain (λ t g _ l. verdict t l.flags ≡ Value g.value)
+pub plain-verified : EachPlain (λ t g _ l. verdict t l.flags ≡ Ok g.value)
 plain-verified = each-plain (λ t g l l' s.
-    flags-verified (calls.plain-handed t g l l' s) ∙ ap Value (sym (calls.plain_value t g l l' s)))
+    flags-verified (calls.plain-handed t g l l' s) ∙ ap Ok (sym (calls.plain_value t g l l' s)))

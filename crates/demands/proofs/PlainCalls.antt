@@ -1,10 +1,11 @@
 -- What is proved of the calls of the plain engine, for Plain.antt.
 use Rattle.prelude.proofs.{ℕ, ◌<◌, ◌≡◌, ap, ◌∙◌, cond, none, some, List, [], ◌∷◌, eqb, length, get_or}
+use Rattle.std.specs.Prelude.{Result, Ok, Err}
 use Rattle.lists.proofs.Choice.{clash}
 use Rattle.gametree.specs.{minimax, root_move_of}
 use Rattle.gametree_theory.proofs.Theorems.{all-deciding}
 use Rattle.table.specs.declared.Rejection.{Rejection}
-use Rattle.table.specs.{frames, child_count, tree, valuation, value_of, ◌leaving◌, Accepted}
+use Rattle.table.specs.{frames, child_count, tree, valuation, value_of, Outcome, ◌leaving◌, Accepted}
 use Rattle.table.proofs.Acceptance.{accepted-formed}
 use Rattle.table.proofs.Proper.{tree-proper}
 use Rattle.certificate_bounds.specs.{ones}
@@ -13,7 +14,6 @@ use Rattle.certificate_write.proofs.Questions.{passed-room}
 use Rattle.certificate_write.proofs.Marks.{evaluated-within, ones-evaluated}
 use Rattle.methods.specs.{Lent, lent}
 use Rattle.plain.specs.declared.PlainResult.{PlainResult}
-use Rattle.plain.specs.declared.PlainAnswer.TheVariants as plain-answer
 use Rattle.plain.specs.{all_leaves, plain_found, plain_outcome}
 use Rattle.plain.proofs.Leaves.{leaves-are}
 use Rattle.demands.proofs.Parts.{by-given, by-refusal}
@@ -25,19 +25,18 @@ abbrev lengths : Lent → List ℕ
 lengths l = length l.marks ∷ length l.flags ∷ []
 
 -- a refusal is the first "no" to questions 1 to 10, and leaves the buffers as they were
-pub plain-refused : (t : List ℕ) (l l' : Lent) (q : Rejection) → plain-answer.Rejected q leaving l' ≡ plain_outcome t l
+pub plain-refused : (t : List ℕ) (l l' : Lent) (q : Rejection) → Err q leaving l' ≡ plain_outcome t l
     → (search_rejection t (lengths l) ≡ some q) × (l' ≡ l)
 plain-refused t l l' q s =
-    by-refusal plain-answer.Rejected _ l (λ r e. clash (cc)) (λ x y e. cc) (search_rejection t (lengths l)) q l' s
+    by-refusal Err _ l (λ r e. clash (cc)) (λ x y e. cc) (search_rejection t (lengths l)) q l' s
 
 -- a call with a result
 module _ (t : List ℕ) (f : PlainResult) (l l' : Lent) (s : PlainSays t l f l') where
   passed : (search_rejection t (lengths l) ≡ none)
-      × (plain-answer.Found f leaving l'
-      ≡ plain-answer.Found (plain_found t)
-      leaving lent (marks_of (all_leaves t) t l.marks) (flags_of (all_leaves t) t l.flags) l.order)
+      × ◌≡◌ {A = Outcome (Result PlainResult Rejection) Lent} (Ok f leaving l')
+      (Ok (plain_found t) leaving lent (marks_of (all_leaves t) t l.marks) (flags_of (all_leaves t) t l.flags) l.order)
   passed =
-      by-given plain-answer.Rejected _ l (search_rejection t (lengths l)) (plain-answer.Found f) l'
+      by-given Err _ l (search_rejection t (lengths l)) (Ok f) l'
       (λ r e. clash (cc)) s
 
   found : f ≡ plain_found t

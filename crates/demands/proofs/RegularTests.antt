@@ -1,9 +1,8 @@
 -- Small cases of the least counts (SPEC 18).
-use Rattle.prelude.proofs.{ℕ, zero, suc, ◌<◌, arith, ◌≡◌, refl}
+use Rattle.prelude.proofs.{ℕ, zero, suc, ◌<◌, arith, ◌≡◌, refl, Ok}
 use Rattle.table.specs.{child_count, byte3, same_mover, parent_before, position_within, position_of, depth_of}
 use Rattle.table.specs.{RegularTable}
 use Rattle.table.specs.{small}
-use Rattle.least_count.specs.declared.Least.TheVariants.{Leaves}
 use Rattle.least_count.specs.{cap, least_of, least_answer}
 
 -- two entries meet the cap exactly, and belong to no accepted tree either
@@ -38,5 +37,5 @@ small-regular x y u v =
       alternating = below-7 (λ i. byte3 t i ≡ same_mover → ⊥) zero3 zero3 zero3 zero3 zero3 zero3 zero3;
     }
 
-pub small_least : least_answer 2 2 ≡ Leaves 3
+pub small_least : least_answer 2 2 ≡ Ok 3
 small_least = refl

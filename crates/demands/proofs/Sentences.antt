@@ -1,11 +1,12 @@
 -- The headline sentences of the demands and of each request, said of the functions that run (TheSentence.antt has the
 -- first of them). N4: `treefile-digit` in Contracts.antt.
-use Rattle.prelude.proofs.{ℕ, ◌*◌, ◌≤◌, ◌<◌, ◌≡◌, sym, ap, ◌∙◌, subst, ◌↔◌, Bool, true, cond, none, List, [], ◌++◌, eqb}
+use Rattle.prelude.proofs.{ℕ, ◌*◌, ◌≤◌, ◌<◌, ◌≡◌, sym, ap, ◌∙◌, subst, ◌↔◌, Bool, true, cond, none, List, [], ◌++◌}
+use Rattle.prelude.proofs.{eqb, Ok, Err}
 use Rattle.prelude.proofs.{ℤ, pos, nat_abs, length, get_or, take, drop, ◌≤ℤ◌, ◌<ℤ◌}
+use Rattle.std.specs.Prelude.{Ok}
 use Rattle.lists.specs.{Once, Subsequence, among}
 use Rattle.gametree.specs.{leaves as tree_leaves, minimax, Certifies, Smallest, pair_leaves, root_move_of}
 use Rattle.table.specs.declared.Rejection.{Rejection}
-use Rattle.table.specs.declared.Checked.TheVariants.{Nodes, Rejected as RejectedTable}
 use Rattle.table.specs.{frame_size, max_depth, frames, child_count, stored_score, depth_of, tree, valuation, value_of}
 use Rattle.table.specs.{max_value, Ordinary, Accepted, LowestDeep, rejection_before9, SameShape, Alternating}
 use Rattle.table.specs.{tree_by_depth}
@@ -23,7 +24,6 @@ use Rattle.file_read.specs.{AcceptedFile, read_outcome}
 use Rattle.file_read.proofs.Acceptance.{accepted-exactly, read-nodes}
 use Rattle.file_write.proofs as writer
 use Rattle.file_write.specs.contracts as writer'
-use Rattle.file_write.specs.declared.Written.TheVariants.{Length}
 use Rattle.file.proofs.Saving.{saved_read}
 use Rattle.file_convert.proofs as file_convert
 use Rattle.file_convert.specs.contracts as file_convert'
@@ -37,26 +37,22 @@ use Rattle.methods.specs.{run_of, evaluated_by, lent, findings_by, answer_by}
 use Rattle.plain.proofs as plain
 use Rattle.plain.specs.contracts as plain'
 use Rattle.plain.specs.declared.PlainResult.{PlainResult}
-use Rattle.plain.specs.declared.PlainAnswer.TheVariants as plain-answer
 use Rattle.graft.proofs as graft
 use Rattle.graft.specs.contracts as graft'
 use Rattle.graft.specs.{graft_value}
 use Rattle.graft.proofs.Grafting.{grafted-value}
 use Rattle.leaf_value.proofs as leaf_value
 use Rattle.leaf_value.specs.contracts as leaf_value'
-use Rattle.leaf_value.specs.declared.LeastValue.TheVariants.{Value}
 use Rattle.leaf_value.specs.{root_value}
 use Rattle.leaf_value.proofs.Theorems.{given}
 use Rattle.worst_fill.proofs as worst_fill
 use Rattle.worst_fill.specs.contracts as worst_fill'
-use Rattle.worst_fill.specs.declared.Filled.TheVariants as filled
 use Rattle.least_count.proofs as least_count
 use Rattle.least_count.specs.contracts as least_count'
-use Rattle.least_count.specs.declared.Least.TheVariants as least
 use Rattle.least_count.specs.{least_answer}
 use Rattle.certificate_choice.proofs as certificate_choice
 use Rattle.certificate_choice.specs.contracts as certificate_choice'
-use Rattle.certificate_choice.specs.declared.Choice.TheVariants.{First, Second}
+use Rattle.certificate_choice.specs.declared.Chosen.TheVariants.{First, Second}
 use Rattle.certificate_choice.specs.{flagged_leaves, flags_by}
 use Rattle.certificate_choice.proofs.Theorems.{both_first, both-second}
 use Rattle.demands.specs.Runs.{Runs, function}
@@ -134,7 +130,7 @@ local = every_two (λ c d s q i x y h a. (
 -- N1: "It is proved equal to alpha-beta in both for every accepted tree", and so to every method
 pub plain-agrees : EverySearchAnd plain'.search.ended (function plain.search.Symbol.name plain.search.Symbol.code)
     (λ c κs (u, _) r e. u.now ≡ c.table → (f : Findings) → c.answer ≡ Found f
-    → (g : PlainResult) → r ≡ plain-answer.Found g → (g.value ≡ f.value) × (g.root_move ≡ f.root_move))
+    → (g : PlainResult) → r ≡ Ok g → (g.value ≡ f.value) × (g.root_move ≡ f.root_move))
 plain-agrees =
     every-and contracts.plain-search (λ c s κs (u, (m, (f, _))) r e o same g i h j.
     let l = lent m.now f.now [] in
@@ -150,7 +146,7 @@ plain-agrees =
 pub deeper-refused : Runs table_check'.check.ended (function table_check.check.Symbol.name
     table_check.check.Symbol.code)
     (λ κs (t, _) r e. rejection_before9 t.now ≡ none → (k : ℕ) → k < frames t.now
-    → max_depth < depth_of t.now k → (q : Rejection) × LowestDeep t.now q × (r ≡ RejectedTable q))
+    → max_depth < depth_of t.now k → (q : Rejection) × LowestDeep t.now q × (r ≡ Err q))
 deeper-refused =
     follows contracts.tables-check (λ κs (t, _) r e s passed k h d.
     let p = deeper-answered t.now passed k h d in (p.0, p.1, s ∙ p.2))
@@ -159,9 +155,9 @@ deeper-refused =
 pub written_read : RunBoth writer'.write.ended reader'.read.ended
     (function writer.write.Symbol.name writer.write.Symbol.code)
     (function reader.read.Symbol.name reader.read.Symbol.code)
-    (λ κs (t, _) r (_, (b, _)) κs' (f, (u, _)) r' (_, (u', _)). (n : ℕ) → r ≡ Length n
+    (λ κs (t, _) r (_, (b, _)) κs' (f, (u, _)) r' (_, (u', _)). (n : ℕ) → r ≡ Ok n
     → f.now ≡ take n b.now → length t.now ≤ length u.now
-    → (r' ≡ Nodes (frames t.now)) × (u'.now ≡ t.now ++ drop (length t.now) u.now))
+    → (r' ≡ Ok (frames t.now)) × (u'.now ≡ t.now ++ drop (length t.now) u.now))
 written_read =
     together writer-says contracts.treefile-read
     (λ κs (t, (b, _)) r (_, (b', _)) (bytes, s) κs' (f, (u, _)) r' (_, (u', _)) c n e same room.
@@ -199,7 +195,7 @@ merit-not-below = every merit-bounds
 
 -- N7: "The reader takes capital hexadecimal letters and no others"
 pub capitals-taken : Runs reader'.read.ended (function reader.read.Symbol.name reader.read.Symbol.code)
-    (λ κs (f, _) r e. (n : ℕ) → r ≡ Nodes n → (i k : ℕ) → i < length (lines_of f.now) → k < line_digits
+    (λ κs (f, _) r e. (n : ℕ) → r ≡ Ok n → (i k : ℕ) → i < length (lines_of f.now) → k < line_digits
     → is_capital_digit (get_or (get_or (lines_of f.now) i []) k 0) ≡ true)
 capitals-taken =
     follows contracts.treefile-read (λ κs (f, (t, _)) r e s n given i k h l.
@@ -209,7 +205,7 @@ capitals-taken =
 -- "their trees do not change"
 pub converted-same : Runs file_convert'.convert.ended (function file_convert.convert.Symbol.name
     file_convert.convert.Symbol.code)
-    (λ κs (f, _) r (_, (b, _)). (n : ℕ) → r ≡ Length n
+    (λ κs (f, _) r (_, (b, _)). (n : ℕ) → r ≡ Ok n
     → AcceptedFile (take n b.now) × (decoded (take n b.now) ≡ decoded f.now))
 converted-same =
     follows contracts.convert-convert (λ κs (f, (b, _)) r (_, (b', _)) s n e.
@@ -227,7 +223,7 @@ alternating = every (λ c s g e p.
 
 -- N9: "Its minimax value equals that of the first tree with the leaf's worth replaced by the grafted tree's value"
 pub graft-value : Runs graft'.graft.ended (function graft.graft.Symbol.name graft.graft.Symbol.code)
-    (λ κs (t, (k, (u, _))) r (_, (_, (_, (b, _)))). (n : ℕ) → r ≡ Nodes n →
+    (λ κs (t, (k, (u, _))) r (_, (_, (_, (b, _)))). (n : ℕ) → r ≡ Ok n →
     let result = take (frame_size * n) b.now in
     minimax (valuation result) (tree result) ≡ graft_value t.now k u.now)
 graft-value =
@@ -240,7 +236,7 @@ graft-value =
 -- one"
 pub smallest-value : Runs leaf_value'.least_value.ended (function leaf_value.least_value.Symbol.name
     leaf_value.least_value.Symbol.code)
-    (λ κs (t, (k, (w, _))) r e. (v : ℤ) → r ≡ Value v → (nat_abs v ≤ max_value) × (root_value t.now k v ≡ w)
+    (λ κs (t, (k, (w, _))) r e. (v : ℤ) → r ≡ Ok v → (nat_abs v ≤ max_value) × (root_value t.now k v ≡ w)
     × ((u : ℤ) → nat_abs u ≤ max_value → u <ℤ v → root_value t.now k u ≡ w → ⊥))
 smallest-value =
     follows contracts.leastvalue-least-value (λ κs (t, (k, (w, _))) r e s v i.
@@ -249,7 +245,7 @@ smallest-value =
 -- N11: "In that tree alpha-beta values every leaf, so no filling of the shape costs it more"
 pub costs-most : EverySearchAnd worst_fill'.fill.ended (function worst_fill.fill.Symbol.name
     worst_fill.fill.Symbol.code)
-    (λ c κs (t, _) r (t', _). (n : ℕ) → r ≡ filled.Leaves n → c.method ≡ AlphaBeta
+    (λ c κs (t, _) r (t', _). (n : ℕ) → r ≡ Ok n → c.method ≡ AlphaBeta
     → (g : Findings) → c.answer ≡ Found g → (SameShape t.now c.table → g.leaves ≤ n)
     × (c.table ≡ t'.now → (g.leaves ≡ n) × ((k : ℕ) → k < frames t.now
     → get_or c.left.marks k 0 ≡ cond (eqb (child_count t.now k) 0) 1 0)))
@@ -266,7 +262,7 @@ costs-most =
 -- each such tree that is accepted"
 pub least-leaves : Runs least_count'.least_leaves.ended (function least_count.least_leaves.Symbol.name
     least_count.least_leaves.Symbol.code)
-    (λ κs (w, (d, _)) r e. (n : ℕ) → r ≡ least.Leaves n → (t : List ℕ) → RegularTable w d t → Accepted t
+    (λ κs (w, (d, _)) r e. (n : ℕ) → r ≡ Ok n → (t : List ℕ) → RegularTable w d t → Accepted t
     → (g h : ℕ → Bool) (v : ℕ) → Certifies (valuation t) (tree t) g h v → pair_leaves g h (tree t) ≡ n)
 least-leaves =
     follows contracts.leastcount-least-leaves
@@ -274,11 +270,11 @@ least-leaves =
 
 -- "and no finished search counts fewer"
 pub counts-no-fewer : EverySearch (λ c. (g : Findings) → c.answer ≡ Found g → (w d n : ℕ)
-    → RegularTable w d c.table → least_answer w d ≡ least.Leaves n → n ≤ g.leaves)
+    → RegularTable w d c.table → least_answer w d ≡ Ok n → n ≤ g.leaves)
 counts-no-fewer = every no-fewer
 
 -- nor does the plain engine mark fewer
-pub marks-no-fewer : EachPlain (λ t f _ l. (w d n : ℕ) → RegularTable w d t → least_answer w d ≡ least.Leaves n
+pub marks-no-fewer : EachPlain (λ t f _ l. (w d n : ℕ) → RegularTable w d t → least_answer w d ≡ Ok n
     → n ≤ ones l.marks (frames t))
 marks-no-fewer = each-plain no-fewer-plain
 
@@ -287,9 +283,9 @@ pub fewer-leaves : Runs certificate_choice'.select.ended (function certificate_c
     certificate_choice.select.Symbol.code)
     (λ κs (t, (f, (s, _))) r e. (v w : ℕ) → Certificate t.now f.now v → Certificate t.now s.now w
     → (flagged_leaves t.now s.now < flagged_leaves t.now f.now
-    → (r.choice ≡ Second) × (r.flags.now ≡ take (frames t.now) s.now))
+    → (r.choice ≡ Ok Second) × (r.flags.now ≡ take (frames t.now) s.now))
     × (flagged_leaves t.now f.now ≤ flagged_leaves t.now s.now
-    → (r.choice ≡ First) × (r.flags.now ≡ take (frames t.now) f.now)))
+    → (r.choice ≡ Ok First) × (r.flags.now ≡ take (frames t.now) f.now)))
 fewer-leaves =
     follows contracts.shorter-select (λ κs (t, (f, (s, _))) r e o v w c d. (
       λ l. let i = o.0 ∙ both-second t.now f.now s.now c d l in

@@ -8,10 +8,9 @@
 -- has the other sentences, Exports.antt this one of the two exports. In a statement about a call of another function
 -- the arguments come first, in the order of the code, then the answer r, then the parameters at exit; t and u are
 -- tables, m marks, f flags, o lists of leaves.
-use Rattle.prelude.proofs.{ℕ, ◌≤◌, ◌≡◌, sym, ap, ◌∙◌, ◌↔◌, some, [], ◌∷◌, ℤ, length}
+use Rattle.prelude.proofs.{ℕ, ◌≤◌, ◌≡◌, sym, ap, ◌∙◌, ◌↔◌, some, [], ◌∷◌, ℤ, length, Ok, Err}
 use Rattle.gametree.specs.{minimax, root_move_of}
 use Rattle.table.specs.declared.Rejection.{Rejection}
-use Rattle.table.specs.declared.Checked.TheVariants.{Rejected as RejectedTable}
 use Rattle.table.specs.{value_of, frames, tree, valuation, ◌and_then◌, ◌leaving◌, rejection}
 use Rattle.table.proofs.Asked.{answer-rejected}
 use Rattle.file_line.specs.{decoded}
@@ -24,10 +23,8 @@ use Rattle.sss.proofs as sss
 use Rattle.sss.specs.contracts as sss'
 use Rattle.plain.proofs as plain
 use Rattle.plain.specs.contracts as plain'
-use Rattle.plain.specs.declared.PlainAnswer.TheVariants as plain-answer
 use Rattle.certificate_check.proofs as certificate_check
 use Rattle.certificate_check.specs.contracts as certificate_check'
-use Rattle.certificate_check.specs.declared.Verdict.TheVariants.{Value}
 use Rattle.certificate_check.specs.Certificate.{Certificate}
 use Rattle.certificate_check.proofs.Theorems.{accepts-certificates, accepted-minimax}
 use Rattle.file_read.proofs as reader
@@ -38,7 +35,6 @@ use Rattle.file_write.proofs as writer
 use Rattle.file_write.specs.contracts as writer'
 use Rattle.file_write.specs.{write_check10, write_rejection}
 use Rattle.file.proofs.Saving as saving
-use Rattle.file_write.specs.declared.Written.TheVariants.{Rejected as RejectedWrite}
 use Rattle.file_convert.proofs as file_convert
 use Rattle.file_convert.specs.contracts as file_convert'
 use Rattle.file_convert.specs.declared.Printed.TheVariants.{NoRoom}
@@ -52,7 +48,6 @@ use Rattle.graft.proofs.Grafting as grafting
 use Rattle.worst_fill.proofs as worst_fill
 use Rattle.worst_fill.specs.contracts as worst_fill'
 use Rattle.worst_fill.proofs.Whole.{fill-kept}
-use Rattle.worst_fill.specs.declared.Filled.TheVariants.{Rejected as RejectedFill}
 use Rattle.demands.specs.Runs.{Runs, function}
 use Rattle.demands.specs.{EverySearch, EveryTwo, Given, Marked, CertifiedBy}
 use Rattle.demands.proofs.Contracts as contracts
@@ -90,8 +85,8 @@ solution-trees = every (λ c s g e. flags-certify (handed c s g e))
 -- then the minimax value"
 pub checker : Runs certificate_check'.check.ended (function certificate_check.check.Symbol.name
     certificate_check.check.Symbol.code)
-    (λ κs (t, (f, _)) r e. (((z : ℤ) × (r ≡ Value z)) ↔ ((v : ℕ) × Certificate t.now f.now v))
-    × ((z : ℤ) → r ≡ Value z → z ≡ value_of (minimax (valuation t.now) (tree t.now))))
+    (λ κs (t, (f, _)) r e. (((z : ℤ) × (r ≡ Ok z)) ↔ ((v : ℕ) × Certificate t.now f.now v))
+    × ((z : ℤ) → r ≡ Ok z → z ≡ value_of (minimax (valuation t.now) (tree t.now))))
 checker =
     follows contracts.verify-check (λ κs (t, (f, _)) r e o.
     let a = accepts-certificates t.now f.now in (
@@ -130,7 +125,7 @@ sss-keeps =
     views.list-refused n t.now l.now (lent m.now f.now o.now) _ q _ l'.now (rw e at s))
 
 pub plain-keeps : Runs plain'.search.ended (function plain.search.Symbol.name plain.search.Symbol.code)
-    (λ κs (t, (m, (f, _))) r (_, (m', (f', _))). (q : Rejection) → r ≡ plain-answer.Rejected q
+    (λ κs (t, (m, (f, _))) r (_, (m', (f', _))). (q : Rejection) → r ≡ Err q
     → (search_rejection t.now (length m.now ∷ length f.now ∷ []) ≡ some q)
     × (lent m'.now f'.now [] ≡ lent m.now f.now []))
 plain-keeps =
@@ -138,7 +133,7 @@ plain-keeps =
     plain-refused t.now (lent m.now f.now []) (lent m'.now f'.now []) q (rw e at s))
 
 pub read_keeps : Runs reader'.read.ended (function reader.read.Symbol.name reader.read.Symbol.code)
-    (λ κs (f, (t, _)) r (_, (t', _)). (q : Rejection) → r ≡ RejectedTable q
+    (λ κs (f, (t, _)) r (_, (t', _)). (q : Rejection) → r ≡ Err q
     → (read_rejection f.now t.now ≡ some q) × (t'.now ≡ t.now))
 read_keeps =
     follows contracts.treefile-read (λ κs (f, (t, _)) r (_, (t', _)) s q e.
@@ -147,7 +142,7 @@ read_keeps =
     (i, ap (λ o. o.left) s ∙ rw i))
 
 pub write_keeps : Runs writer'.write.ended (function writer.write.Symbol.name writer.write.Symbol.code)
-    (λ κs (t, (b, _)) r (_, (b', _)). (q : Rejection) → r ≡ RejectedWrite q
+    (λ κs (t, (b, _)) r (_, (b', _)). (q : Rejection) → r ≡ Err q
     → (write_rejection t.now (length b.now) ≡ some q) × (b'.now ≡ b.now))
 write_keeps =
     follows contracts.treefile-write (λ κs (t, (b, _)) r (_, (b', _)) s q e.
@@ -156,7 +151,7 @@ write_keeps =
 
 pub convert-keeps : Runs file_convert'.convert.ended (function file_convert.convert.Symbol.name
     file_convert.convert.Symbol.code)
-    (λ κs (f, (b, _)) r (_, (b', _)). (q : Rejection) → r ≡ RejectedWrite q
+    (λ κs (f, (b, _)) r (_, (b', _)). (q : Rejection) → r ≡ Err q
     → ((base_rejection f.now and_then write_check10 (decoded f.now) (length b.now)) ≡ some q)
     × (b'.now ≡ b.now))
 convert-keeps =
@@ -173,7 +168,7 @@ output-keeps =
     ap (λ o. o.left) s ∙ no-room-keeps f.now b.now (sym (ap (λ o. o.answer) s) ∙ e))
 
 pub graft-keeps : Runs graft'.graft.ended (function graft.graft.Symbol.name graft.graft.Symbol.code)
-    (λ κs (t, (k, (u, (b, _)))) r (_, (_, (_, (b', _)))). (q : Rejection) → r ≡ RejectedTable q
+    (λ κs (t, (k, (u, (b, _)))) r (_, (_, (_, (b', _)))). (q : Rejection) → r ≡ Err q
     → (graft_rejection t.now k u.now (length b.now) ≡ some q) × (b'.now ≡ b.now))
 graft-keeps =
     follows contracts.graft-graft (λ κs (t, (k, (u, (b, _)))) r (_, (_, (_, (b', _)))) s q e.
@@ -181,7 +176,7 @@ graft-keeps =
     (p.0, ap (λ o. o.left) s ∙ p.1))
 
 pub fill-keeps : Runs worst_fill'.fill.ended (function worst_fill.fill.Symbol.name worst_fill.fill.Symbol.code)
-    (λ κs (t, _) r (t', _). (q : Rejection) → r ≡ RejectedFill q
+    (λ κs (t, _) r (t', _). (q : Rejection) → r ≡ Err q
     → (rejection t.now ≡ some q) × (t'.now ≡ t.now))
 fill-keeps =
     follows contracts.worstfill-fill (λ κs (t, _) r (t', _) s q e.

@@ -1,7 +1,7 @@
 -- The worst-case filling (02: N11, the dearest filling), sentence by sentence, over the definition that the contract of
 -- the call cites. The lent table is t, and after the call it is `handed t`; a leaf's rank there is what its bytes 4 and
 -- 5 hold.
-use Rattle.prelude.proofs.{ℕ, ◌+◌, ◌≤◌, ◌<◌, ◌≡◌, sym, ap, ap₂, ◌∙◌, subst, ◌⊎◌, inl, inr, List, pos, length}
+use Rattle.prelude.proofs.{ℕ, ◌+◌, ◌≤◌, ◌<◌, ◌≡◌, sym, ap, ap₂, ◌∙◌, subst, ◌⊎◌, inl, inr, List, pos, length, Ok}
 use Rattle.gametree.specs.declared.Side.TheVariants.{Max, Min}
 use Rattle.gametree.specs.{leaves}
 use Rattle.gametree_theory.proofs.Minimax.Nodes.{nodes-in}
@@ -14,7 +14,6 @@ use Rattle.table.proofs.Leaves.{leaf-listed}
 use Rattle.table.proofs.Next.{child-within}
 use Rattle.table.proofs.Shapes.{same-tree}
 use Rattle.table.proofs.Values.{value-plus}
-use Rattle.worst_fill.specs.declared.Filled.TheVariants.{Leaves}
 use Rattle.worst_fill.specs.{worst_fill, fill_outcome, handed, LeafBelow}
 use Rattle.worst_fill.proofs.Whole.{fill-given, fill-accepted}
 use Rattle.worst_fill.proofs.Order.{Before, node_block, node-order}
@@ -23,10 +22,10 @@ use Rattle.worst_fill.proofs.WorstFill.{rank-once, rank-every, rank-score, same-
 
 module _ (t : List ℕ) where
   -- "For an accepted shape the call writes the ranks": there is no other question
-  pub leaves-given : Accepted t → (fill_outcome t).answer ≡ Leaves (length (leaves (tree t)))
+  pub leaves-given : Accepted t → (fill_outcome t).answer ≡ Ok (length (leaves (tree t)))
   leaves-given a = ap (λ o. o.answer) (fill-accepted t a)
 
-  module _ (n : ℕ) (e : (fill_outcome t).answer ≡ Leaves n) where
+  module _ (n : ℕ) (e : (fill_outcome t).answer ≡ Ok n) where
     -- and only an accepted table is filled
     pub only-accepted : Accepted t
     only-accepted = (fill-given t n e).0
@@ -117,6 +116,6 @@ module _ (t : List ℕ) where
 pub values-no-part : (t u : List ℕ) → Accepted t → Accepted u → SameShape t u → fill_outcome t ≡ fill_outcome u
 values-no-part t u a b s =
     fill-accepted t a
-    ∙ ap₂ (λ T v. Leaves (length (leaves T)) leaving v)
+    ∙ ap₂ (λ T v. Ok (length (leaves T)) leaving v)
     (same-tree t u s (accepted-formed t a) (accepted-formed u b)) (same-worst t u a b s)
     ∙ sym (fill-accepted u b)

@@ -1,5 +1,5 @@
 -- What is said of the searches as they run.
-use Rattle.std.specs.Prelude.{ℕ, ◌≡◌, List, []}
+use Rattle.std.specs.Prelude.{ℕ, ◌≡◌, List, [], Ok}
 use denote.Triple.Clauses.{Ended}
 use Rattle.table.specs.declared.Rejection.{Rejection}
 use Rattle.methods.specs.declared.Method.{Method}
@@ -11,7 +11,6 @@ use Rattle.search.specs.contracts as search'
 use Rattle.plain.proofs as plain
 use Rattle.plain.specs.contracts as plain'
 use Rattle.plain.specs.declared.PlainResult.{PlainResult}
-use Rattle.plain.specs.declared.PlainAnswer.TheVariants as plain-answer
 use Rattle.demands.specs.Runs.{Claim, Runs, RunBoth, Function, function}
 
 -- a call of `search::search`: what it was asked and lent, what it answered and left
@@ -62,5 +61,5 @@ count_of (Rejected q) = 0
 -- no list of leaves)
 pub record EachPlain (P : (t : List ℕ) → PlainResult → Lent → (left : Lent) → Type 0) : Type 2 where
   pub plain_search : Runs plain'.search.ended (function plain.search.Symbol.name plain.search.Symbol.code)
-      (λ κs (t, (m, (f, _))) r (_, (m', (f', _))). (g : PlainResult) → r ≡ plain-answer.Found g
+      (λ κs (t, (m, (f, _))) r (_, (m', (f', _))). (g : PlainResult) → r ≡ Ok g
       → P t.now g (lent m.now f.now []) (lent m'.now f'.now []))

@@ -1,11 +1,10 @@
 -- The file of a table, against the definitions that the public reader cites: its length, its letters and line feeds,
 -- that it is read back exactly, and that different tables give different files.
-use Rattle.prelude.proofs.{ℕ, zero, suc, ◌+◌, ◌*◌, ◌-◌, ◌≤◌, ◌<◌, min, ◌≡◌, refl, sym, ap, ◌∙◌, true, Option, none}
+use Rattle.prelude.proofs.{ℕ, zero, suc, ◌+◌, ◌*◌, ◌-◌, ◌≤◌, ◌<◌, min, ◌≡◌, refl, sym, ap, ◌∙◌, true, Option, none, Ok}
 use Rattle.prelude.proofs.{List, [], ◌∷◌, ◌++◌, append_assoc, length, get_or, take, drop, length-take, length-drop}
 use Rattle.prelude.proofs.{get_or-append, take_all, drop-drop, take-add, get_or-take, get_or-drop, get_or-append-add}
 use Rattle.prelude.proofs.{length-take-le, arith}
 use Rattle.table.specs.declared.Rejection.{Rejection}
-use Rattle.table.specs.declared.Checked.TheVariants.{Nodes}
 use Rattle.table.specs.{frame_size, frames, ◌leaving◌, Accepted}
 use Rattle.table.proofs.Stated.{yes-ask, passed-both}
 use Rattle.table.proofs.Acceptance.{accepted-stated}
@@ -152,10 +151,10 @@ module _ (t : List ℕ) (accepted : Accepted t) where
 
     -- reading a written file into any table with room restores the table exactly, and keeps what lies past it
     pub written_read : (table : List ℕ) → length t ≤ length table
-        → read_outcome (file_of t) table ≡ Nodes (frames t) leaving (t ++ drop (length t) table)
+        → read_outcome (file_of t) table ≡ Ok (frames t) leaving (t ++ drop (length t) table)
     written_read table room =
         accepted-read (file_of t) table written-accepted (rw written-decoded (omega arith))
-        ∙ ap (λ x. Nodes (frames x) leaving (x ++ drop (length x) table)) written-decoded
+        ∙ ap (λ x. Ok (frames x) leaving (x ++ drop (length x) table)) written-decoded
 
 -- two accepted tables give one file only if they are equal
 pub written_once : (t u : List ℕ) → Accepted t → Bytes t → Accepted u → Bytes u → file_of t ≡ file_of u → t ≡ u

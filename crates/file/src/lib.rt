@@ -2,6 +2,6 @@
 #![tactic(auto)]
 
 pub use file_hex::digit;
-pub use file_line::{Cursor, Frame, LINE_SIZE, Line};
+pub use file_line::{Cursor, Frame, LINE_SIZE};
 pub use file_read::{MAX_FILE, read};
-pub use file_write::{Written, write};
+pub use file_write::write;

@@ -1,6 +1,7 @@
 -- What a call of the converter gives and leaves, over the outcome that its contract cites: the file's own table,
 -- written.
-use Rattle.prelude.proofs.{ℕ, ◌*◌, ◌≤◌, ◌≡◌, sym, ap, ap₂, ◌∙◌, ◌↔◌, true, Option, none, some, List, ◌++◌, leb, length}
+use Rattle.prelude.proofs.{ℕ, ◌*◌, ◌≤◌, ◌≡◌, sym, ap, ap₂, ◌∙◌, ◌↔◌, true, Option, none, some, List, ◌++◌, leb}
+use Rattle.prelude.proofs.{length, Ok, Err}
 use Rattle.prelude.proofs.{take, drop, arith, le-leb, leb-true}
 use Rattle.table.specs.declared.Rejection.{Rejection}
 use Rattle.table.specs.{frames, ◌and_then◌, frames_rejection, Accepted}
@@ -10,7 +11,6 @@ use Rattle.file_read.specs.{max_file, file_check3, file_rejection, AcceptedFile,
 use Rattle.file_read.proofs.Reading.{lines-parts, lines_then}
 use Rattle.file_read.proofs.Acceptance.{accepted-table, accepted-letters}
 use Rattle.file_write.specs.{file_of, write_check10, at_front}
-use Rattle.file_write.specs.declared.Written.TheVariants.{Length, Rejected}
 use Rattle.file.specs.{Bytes}
 use Rattle.file.proofs.DecodedBytes.{decoded-bytes}
 use Rattle.file.proofs.RoundTrip.{written-length, written-decoded, written-accepted}
@@ -54,7 +54,7 @@ module _ (f : List ℕ) where
     pub convert_gives : base_rejection f ≡ none → line_size * frames (decoded f) ≤ length buffer
         → convert_outcome f buffer
         ≡ record {
-          answer = Length (line_size * frames (decoded f));
+          answer = Ok (line_size * frames (decoded f));
           left = file_of (decoded f) ++ drop (line_size * frames (decoded f)) buffer;
         }
     convert_gives e room =
@@ -66,13 +66,13 @@ module _ (f : List ℕ) where
         )
 
     -- a rejection is the first "no", and the buffer is as it was
-    pub convert-keeps : (r : Rejection) → (convert_outcome f buffer).answer ≡ Rejected r
+    pub convert-keeps : (r : Rejection) → (convert_outcome f buffer).answer ≡ Err r
         → (asked ≡ some r) × ((convert_outcome f buffer).left ≡ buffer)
     convert-keeps r e =
         let w = rejection-written (decoded f) buffer asked r (sym (ap (λ o. o.answer) convert-own) ∙ e) in
         (w.0, ap (λ o. o.left) convert-own ∙ w.1)
 
-    module _ (n : ℕ) (e : (convert_outcome f buffer).answer ≡ Length n) where
+    module _ (n : ℕ) (e : (convert_outcome f buffer).answer ≡ Ok n) where
       -- where there is a length, the base accepted the file
       pub convert-base : base_rejection f ≡ none
       convert-base =
@@ -111,10 +111,10 @@ module _ (f : List ℕ) where
           rw convert-leaves.front (written-decoded (decoded f) (base-table convert-base) (base-bytes convert-base))
 
 -- converting it again changes nothing
-pub converted-again : (f buffer : List ℕ) (n : ℕ) → (convert_outcome f buffer).answer ≡ Length n → (other : List ℕ)
+pub converted-again : (f buffer : List ℕ) (n : ℕ) → (convert_outcome f buffer).answer ≡ Ok n → (other : List ℕ)
     → n ≤ length other →
     let new = take n (convert_outcome f buffer).left in
-    convert_outcome new other ≡ record { answer = Length n; left = new ++ drop n other }
+    convert_outcome new other ≡ record { answer = Ok n; left = new ++ drop n other }
 converted-again f buffer n e other room =
     let new = take n (convert_outcome f buffer).left in
     let l = convert-leaves f buffer n e in
@@ -122,11 +122,11 @@ converted-again f buffer n e other room =
     let size : line_size * frames (decoded new) ≡ n = ap (λ t. line_size * frames t) table ∙ sym l.size in
     let file : file_of (decoded new) ≡ new = ap file_of table ∙ sym l.front in
     let gives = convert_gives new other (accepted-base new (converted-accepted f buffer n e)) (omega arith) in
-    gives ∙ ap₂ (λ k g. record { answer = Length k; left = g ++ drop k other }) size file
+    gives ∙ ap₂ (λ k g. record { answer = Ok k; left = g ++ drop k other }) size file
 
 -- two files give one file exactly if they have one table
-pub converted-once : (f g buffer other : List ℕ) (n m : ℕ) → (convert_outcome f buffer).answer ≡ Length n
-    → (convert_outcome g other).answer ≡ Length m
+pub converted-once : (f g buffer other : List ℕ) (n m : ℕ) → (convert_outcome f buffer).answer ≡ Ok n
+    → (convert_outcome g other).answer ≡ Ok m
     → (decoded f ≡ decoded g) ↔ (take n (convert_outcome f buffer).left ≡ take m (convert_outcome g other).left)
 converted-once f g buffer other n m e h = (
   λ same. (convert-leaves f buffer n e).front ∙ ap file_of same ∙ sym (convert-leaves g other m h).front,

@@ -1,7 +1,8 @@
 -- What the converter gives decides what is printed: a file that it wrote is printed as it stands, a rejection as its
 -- line.
 use Rattle.prelude.proofs.{ℕ, ◌*◌, ◌≤◌, ◌<◌, arith, ◌≡◌, refl, sym, ap, ◌∙◌, Option, none, some, List, ◌++◌, leb}
-use Rattle.prelude.proofs.{length, take, drop, length-append, take-length, le-leb, lt-leb}
+use Rattle.prelude.proofs.{Result, Ok, Err}
+use Rattle.prelude.proofs.{length, drop, length-append, le-leb, lt-leb}
 use Rattle.lists.proofs.Choice.{clash, cond_cases}
 use Rattle.table.specs.declared.Rejection.{Rejection}
 use Rattle.table.specs.{unless, Outcome, ◌leaving◌, frames}
@@ -9,12 +10,9 @@ use Rattle.table.proofs.Acceptance.{accepted-formed}
 use Rattle.file_line.specs.{line_size, decoded}
 use Rattle.file_read.specs.{max_file}
 use Rattle.file_write.specs.{file_of, at_front}
-use Rattle.file_write.specs.declared.Written.{Written}
-use Rattle.file_write.specs.declared.Written.TheVariants.{Length, Rejected}
 use Rattle.file.proofs.Saving.{length-written, rejection-written}
-use Rattle.text.specs.declared.Text.{Text}
-use Rattle.text.specs.{refused_line, text_of}
-use Rattle.text.proofs.Sizes.{refused-few, text-bytes}
+use Rattle.text.specs.{refused_line}
+use Rattle.text.proofs.Sizes.{refused-few}
 use Rattle.file_convert.specs.{raised, convert_rejection, convert_outcome, length_printed, laid_text, output_outcome}
 use Rattle.file_convert.specs.{base_rejection}
 use Rattle.file_convert.specs.declared.Printed.{Printed}
@@ -32,16 +30,6 @@ module _ (named : ℕ → Printed) (x buffer : List ℕ) where
   pub text-short : length buffer < length x → NoRoom leaving buffer ≡ laid_text named x buffer
   unfolding laid_text
   text-short h = rw (lt-leb (length x) (length buffer) h)
-
-  -- so are the bytes of a text, where they are copied
-  pub copied-laid : (r : Text) (after : List ℕ) → r ≡ text_of x → r.length ≤ length buffer
-      → after ≡ take (length (take r.length r.bytes)) (take r.length r.bytes)
-      ++ drop (length (take r.length r.bytes)) buffer
-      → named r.length leaving after ≡ laid_text named x buffer
-  copied-laid r after e room h =
-      let b = text-bytes x e in
-      let same : after ≡ x ++ drop (length x) buffer = h ∙ rw (b.1, take-length x) in
-      rw (same, b.0) (text-laid (omega (arith, b.0)))
 
   -- the bytes that are printed are within the buffer
   laid-within : ((n : ℕ) → length_printed (named n) ≡ n)
@@ -73,7 +61,8 @@ module _ (f buffer : List ℕ) where
   convert-is = refl
 
   -- a file that was written is printed
-  pub written-printed : (o : Outcome Written (List ℕ)) (n : ℕ) → o ≡ convert_outcome f buffer → o.answer ≡ Length n
+  pub written-printed : (o : Outcome (Result ℕ Rejection) (List ℕ)) (n : ℕ) → o ≡ convert_outcome f buffer
+      → o.answer ≡ Ok n
       → File n leaving o.left ≡ output_outcome f buffer
   written-printed o n e h =
       let given = sym (ap (λ x. x.answer) e) ∙ h in
@@ -84,8 +73,8 @@ module _ (f buffer : List ℕ) where
       (text-laid File (file_of table) buffer (omega (arith, w.size, converted-within f buffer n given)))
 
   -- a rejection leaves the buffer as it was, and its line is printed
-  pub rejection-printed : (o : Outcome Written (List ℕ)) (r : Rejection) → o ≡ convert_outcome f buffer
-      → o.answer ≡ Rejected r
+  pub rejection-printed : (o : Outcome (Result ℕ Rejection) (List ℕ)) (r : Rejection) → o ≡ convert_outcome f buffer
+      → o.answer ≡ Err r
       → (o.left ≡ buffer) × (output_outcome f buffer ≡ laid_text (Line r) (refused_line r) buffer)
   rejection-printed o r e h =
       let w = rejection-written table buffer asked r (sym (ap (λ x. x.answer) (e ∙ convert-is)) ∙ h) in

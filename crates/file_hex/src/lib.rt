@@ -62,5 +62,5 @@ fn one_from(first: u8, byte: u8) -> u8
 pub fn is_lowercase(byte: u8) -> bool
     ensures { result ≡ is_lowercase byte }
 {
-    b'a' <= byte && byte <= b'f'
+    matches!(byte, b'a'..=b'f')
 }

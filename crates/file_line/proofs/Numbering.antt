@@ -1,49 +1,12 @@
--- Reading digits one after the other: each gets its number, and those that are none are counted; and what that says of
--- a line whose bytes stand in front of further digits.
-use Rattle.prelude.proofs.{ℕ, suc, ◌+◌, ◌-◌, ◌*◌, ◌/◌, ◌≤◌, ◌<◌, min, ◌≡◌, refl, ap, ◌∙◌, Bool, true, false, List, []}
-use Rattle.prelude.proofs.{◌∷◌, ◌++◌, length, get_or, set, take, drop, replicate, get_or-replicate, length-append}
-use Rattle.prelude.proofs.{get_or-append, get_or-set_same, get_or-set_other, get_or-append-add, take-length, arith}
+-- What the numbers of digits, and the count of bytes that are none, say of a line whose bytes stand in front of further
+-- digits.
+use Rattle.prelude.proofs.{ℕ, suc, ◌+◌, ◌-◌, ◌≤◌, ◌<◌, min, ◌≡◌, refl, ap, ◌∙◌, Bool, true, false, List, []}
+use Rattle.prelude.proofs.{◌∷◌, ◌++◌, length, get_or, take, drop, replicate, get_or-replicate}
+use Rattle.prelude.proofs.{get_or-append, get_or-append-add, take-length, arith}
 use Rattle.prelude.proofs.{dec_lt, lt-ltb}
 use Rattle.file_hex.specs.{no_digit, digit_of}
 use Rattle.file_line.specs.{line_digits, all_digits, digits_at_once, Numbered}
 use Rattle.file_line.proofs.Lines.{digit_at}
-
--- before the first
-pub numbered-none : (digits numbers : List ℕ) → Numbered digits numbers 0 0
-numbered-none digits numbers =
-    record {
-      at_most = omega arith;
-      each = λ i h. absurd (omega arith);
-      none = λ e i h. absurd (omega arith);
-      non_empty = λ h. absurd (omega arith);
-    }
-
-module _ (digits numbers : List ℕ) (x k number : ℕ) (d : Numbered digits numbers x k) (inside : k < length numbers)
-    (e : min number no_digit ≡ digit_of (get_or digits k 0)) (small : number < 2 * no_digit)
-  where
-    -- one digit more
-    pub numbered_next : Numbered digits (set numbers k number) (x + number / no_digit) (k + 1)
-    numbered_next =
-        record {
-          at_most = omega (arith, d.at_most, small);
-          each = λ i h.
-              elim (dec_lt i k) [
-                | yes l ↦ rw (get_or-set_other numbers k i number 0 (λ q. omega arith)) (d.each i l)
-                | no l ↦
-                    let last : k ≡ i = omega arith in
-                    rw (← last, get_or-set_same numbers k number 0 inside) e
-              ];
-          none = λ z i h.
-              elim (dec_lt i k) [
-                | yes l ↦ d.none (omega arith) i l
-                | no l ↦ (let last : k ≡ i = omega arith in rw (← last) (omega (arith, e)))
-              ];
-          non_empty = λ p.
-              elim (dec_lt 0 x) [
-                | yes l ↦ (let s = d.non_empty l in (s.0, omega (arith, s.1), s.2))
-                | no l ↦ (k, omega arith, omega (arith, e, small))
-              ];
-        }
 
 -- a list of digits
 pub digits-all : (l : List ℕ) → ((i : ℕ) → i < length l → digit_of (get_or l i 0) < no_digit) → all_digits l ≡ true
@@ -70,9 +33,6 @@ module _ (line copied : List ℕ) (twelve : length line ≡ line_digits)
     padded : copied ≡ line ++ zeros
     padded = c ∙ rw (take-length line, twelve)
 
-    pub padded-length : length copied ≡ digits_at_once
-    padded-length = rw (padded, length-append line zeros, twelve)
-
     module _ (numbers : List ℕ) (x : ℕ) (d : Numbered copied numbers x digits_at_once) where
       line_at : (i : ℕ) → i < line_digits → get_or copied i 0 ≡ get_or line i 0
       line_at i h = rw padded (get_or-append line zeros 0 i (omega arith))
@@ -88,9 +48,6 @@ module _ (line copied : List ℕ) (twelve : length line ≡ line_digits)
             let cut : min (get_or numbers i 0) no_digit ≡ digit_of (get_or line i 0) =
             d.each i (omega arith) ∙ ap digit_of (line_at i h) in
             omega (arith, cut, line-digit i h)
-
-        pub number_small : (i : ℕ) → i < line_digits → get_or numbers i 0 < no_digit
-        number_small i h = rw (line-number i h) (line-digit i h)
 
         pub line-right : all_digits line ≡ true
         line-right = digits-all line (λ i h. line-digit i (omega arith))

@@ -1,8 +1,8 @@
 -- What stands at a position of a file, case by case, and what reading a line there gives.
 use Rattle.prelude.proofs.{ℕ, ◌+◌, ◌-◌, ◌≤◌, ◌<◌, min, ◌≡◌, true, false, and-true, and-false, and-eq-true_iff, List}
+use Rattle.prelude.proofs.{Ok, Err}
 use Rattle.prelude.proofs.{length, take, drop, length-take, length-drop, add-sub_cancel_left, arith, ne_eqb}
-use Rattle.file_line.specs.{line_digits, all_digits, is_line, bytes_of, frame_of, closed, is_line_at, line_at}
-use Rattle.file_line.specs.declared.Line.TheVariants.{Read, NoLine}
+use Rattle.file_line.specs.{line_digits, all_digits, is_line, bytes_at, closed, is_line_at, line_at}
 use Rattle.file_line.proofs.Lines.{line-length}
 
 module _ (f : List ℕ) (at : ℕ) where
@@ -35,14 +35,14 @@ module _ (f : List ℕ) (at : ℕ) where
       rw (e, twelve) (and-true (all_digits line_bytes))
 
   -- no line is read
-  pub line-none : is_line_at f at ≡ false → line_at f at ≡ NoLine (record { at = at })
+  pub line-none : is_line_at f at ≡ false → line_at f at ≡ Err (record { at = at })
   unfolding line_at
   line-none e = rw e
 
   module _ (is : is_line_at f at ≡ true) where
     -- a line is read
     pub line_read : line_at f at
-        ≡ Read (frame_of (bytes_of line_bytes)) (record { at = min (at + line_digits + 1) (length f) })
+        ≡ Ok (record { bytes = bytes_at f at }, record { at = min (at + line_digits + 1) (length f) })
     unfolding line_at
     line_read = rw is
 

@@ -1,10 +1,9 @@
 -- One line of a file: twelve digits, and the six bytes that they stand for.
 use Rattle.std.specs.Prelude.{ℕ, ◌+◌, ◌*◌, min, Bool, true, false, cond, ◌&&◌, ◌||◌, List, [], ◌∷◌, ltb}
-use Rattle.std.specs.Prelude.{eqb, length, get_or, take, drop}
+use Rattle.std.specs.Prelude.{eqb, length, take, drop, Result, Ok, Err}
 use Rattle.file_hex.specs.Digit.{is_lowercase, no_digit, digit_of}
 use Rattle.file_line.specs.declared.Frame.{Frame}
-use Rattle.file_line.specs.declared.Line.{Line}
-use Rattle.file_line.specs.declared.Line.TheVariants.{Read, NoLine}
+use Rattle.file_line.specs.declared.Cursor.{Cursor}
 
 -- how many digits a line has
 abbrev pub line_digits : ℕ
@@ -38,18 +37,6 @@ bytes_of [] = []
 bytes_of (h ∷ []) = []
 bytes_of (h ∷ l ∷ ds) = (16 * digit_of h + digit_of l) ∷ bytes_of ds
 
--- six bytes as a frame
-abbrev pub frame_of : List ℕ → Frame
-frame_of bs =
-    record {
-      byte0 = get_or bs 0 0;
-      byte1 = get_or bs 1 0;
-      byte2 = get_or bs 2 0;
-      byte3 = get_or bs 3 0;
-      byte4 = get_or bs 4 0;
-      byte5 = get_or bs 5 0;
-    }
-
 -- after the digits comes the end of the file or a line feed
 abbrev pub closed : List ℕ → Bool
 closed [] = true
@@ -64,8 +51,8 @@ abbrev pub bytes_at : List ℕ → ℕ → List ℕ
 bytes_at f at = bytes_of (take line_digits (drop at f))
 
 -- reading one line at a position: its frame and the position past it, or no line and the position as it is
-unfoldable pub line_at : List ℕ → ℕ → Line
+unfoldable pub line_at : List ℕ → ℕ → Result (Frame × Cursor) Cursor
 line_at f at =
     cond (is_line_at f at)
-    (Read (frame_of (bytes_of (take line_digits (drop at f)))) (record { at = min (at + line_digits + 1) (length f) }))
-    (NoLine (record { at = at }))
+    (Ok (record { bytes = bytes_at f at }, record { at = min (at + line_digits + 1) (length f) }))
+    (Err (record { at = at }))

@@ -3,7 +3,7 @@
 
 ghost use Rattle.std.specs.Prelude.{◌≡◌, ◌+◌, ◌≤◌, length, drop};
 ghost use Rattle.table.specs.Frame.{frame_size};
-ghost use Rattle.file_line.specs.Line.{line_digits, all_digits, has_lowercase, bytes_of, frame_of};
+ghost use Rattle.file_line.specs.Line.{line_digits, all_digits, has_lowercase, bytes_of};
 ghost use Rattle.file_line.specs.Line.{closed, is_line_at, bytes_at, line_at};
 ghost use Rattle.file_line.specs.Engine.Numbered.{digits_at_once, Numbered};
 ghost use Rattle.file_line.specs.Engine.Stored.{Stored};
@@ -26,12 +26,7 @@ const ABREAST: usize = 16;
 // A node's six bytes (01: a frame).
 #[derive(Clone, Copy)]
 pub struct Frame {
-    pub byte0: u8,
-    pub byte1: u8,
-    pub byte2: u8,
-    pub byte3: u8,
-    pub byte4: u8,
-    pub byte5: u8,
+    pub bytes: [u8; FRAME_SIZE],
 }
 
 // A position in a file (01: the reading position).
@@ -40,29 +35,23 @@ pub struct Cursor {
     pub at: usize,
 }
 
-// What reading one line finds: its frame with the position past it, or no line with the position as it was.
-#[derive(Clone, Copy)]
-pub enum Line {
-    Read(Frame, Cursor),
-    NoLine(Cursor),
-}
-
 impl Cursor {
-    // Reads the line at the position: twelve digits, and then a line feed or the end of the file.
-    pub fn read_line(self, file: &[u8]) -> Line
+    // Reads the line at the position: twelve digits, and then a line feed or the end of the file. Gives its frame with
+    // the position past it, or, where there is no line, the position as it was.
+    pub fn read_line(self, file: &[u8]) -> Result<(Frame, Cursor), Cursor>
         ensures { result ≡ line_at file.now self.at }
     {
         let at = self.at;
         let mut bytes = [0u8; FRAME_SIZE];
         if !decode_line(file, at, &mut bytes, 0) {
-            return Line::NoLine(Cursor { at });
+            return Err(Cursor { at });
         }
-        let frame = frame_of(&bytes);
+        let frame = Frame { bytes };
         let end = at + LINE_DIGITS;
         if end == file.len() {
-            return Line::Read(frame, Cursor { at: end });
+            return Ok((frame, Cursor { at: end }));
         }
-        Line::Read(frame, Cursor { at: end + 1 })
+        Ok((frame, Cursor { at: end + 1 }))
     }
 }
 
@@ -111,6 +100,7 @@ fn decode_digits(line: &[u8], table: &mut [u8], to: usize) -> bool
     if read_digits(&digits, &mut numbers) != 0 {
         return false;
     }
+    // Over an index, since byte k has the digits 2 k and 2 k + 1, and the lemmas on stored bytes count from `to`.
     for k in 0..FRAME_SIZE {
         table[to + k] = BASE * numbers[2 * k] + numbers[2 * k + 1];
     }
@@ -119,42 +109,23 @@ fn decode_digits(line: &[u8], table: &mut [u8], to: usize) -> bool
 
 // Stores the number of each digit, and 16 or more for any other byte; returns how many bytes are not digits, so that no
 // iteration branches.
-fn read_digits(digits: &[u8], numbers: &mut [u8]) -> u8
-    requires { (length digits.now ≡ digits_at_once) × (length numbers.old ≡ digits_at_once) }
+fn read_digits(digits: &[u8; ABREAST], numbers: &mut [u8; ABREAST]) -> u8
     ensures { Numbered digits.now numbers.new result digits_at_once }
 {
     let mut others = 0;
-    for k in 0..ABREAST {
-        let number = digit_or_more(digits[k]);
+    for (k, digit) in digits.iter().enumerate() {
+        let number = digit_or_more(*digit);
         numbers[k] = number;
         others += number / BASE;
     }
     others
 }
 
-// Six bytes as a frame.
-fn frame_of(bytes: &[u8; FRAME_SIZE]) -> Frame
-    ensures { result ≡ frame_of bytes.now }
-{
-    Frame {
-        byte0: bytes[0],
-        byte1: bytes[1],
-        byte2: bytes[2],
-        byte3: bytes[3],
-        byte4: bytes[4],
-        byte5: bytes[5],
-    }
-}
-
 // Does a text contain a lowercase letter? Every byte is looked at, so that no iteration branches.
 pub fn has_lowercase(text: &[u8]) -> bool
     ensures { result ≡ has_lowercase text.now }
 {
-    let mut small = false;
-    for k in 0..text.len() {
-        if is_lowercase(text[k]) {
-            small = true;
-        }
-    }
-    small
+    text.iter()
+        .copied()
+        .fold(false, |small, byte| small | is_lowercase(byte))
 }

@@ -1,11 +1,11 @@
 -- A file is accepted exactly if its lines are right (SPEC 2.2), without lowercase letters, and hold an accepted table;
 -- what the reader then gives.
-use Rattle.prelude.proofs.{ℕ, zero, suc, ◌+◌, ◌*◌, ◌/◌, ◌%◌, ◌≤◌, ◌<◌, ◌≡◌, refl, sym, ap, ◌∙◌, ◌↔◌, true, false}
+use Rattle.prelude.proofs.{ℕ, zero, suc, ◌+◌, ◌*◌, ◌/◌, ◌%◌, ◌≤◌, ◌<◌, ◌≡◌, refl, sym, ap, ◌∙◌, ◌↔◌, true, false, Ok}
+use Rattle.prelude.proofs.{Err}
 use Rattle.prelude.proofs.{Option, none, some, List, [], ◌∷◌, ◌++◌, length, get_or, take, drop, take_at, arith, lt-ltb}
 use Rattle.prelude.proofs.{le-leb, eq-eqb, ltb-true, leb-true, not-true}
 use Rattle.lists.proofs.Choice.{clash}
 use Rattle.table.specs.declared.Rejection.{Rejection}
-use Rattle.table.specs.declared.Checked.TheVariants.{Nodes, Rejected}
 use Rattle.table.specs.{frame_size, frames, max_table, ◌leaving◌, check1, check2, check3, rejection, Accepted}
 use Rattle.table.proofs.Stated.{ask-yes, yes-ask, both-passed, passed-both}
 use Rattle.table.proofs.Asked.{answer-nodes}
@@ -104,7 +104,7 @@ module _ (f : List ℕ) where
   accepted-nodes e = let p = (accepted-table e).0 in frame-count f p ∙ line-count f p
 
   -- where the reader gives nodes, the file is accepted, and the table begins with its frames
-  pub read-nodes : (table : List ℕ) (n : ℕ) → Nodes n ≡ (read_outcome f table).answer
+  pub read-nodes : (table : List ℕ) (n : ℕ) → Ok n ≡ (read_outcome f table).answer
       → AcceptedFile f × Accepted (decoded f) × (n ≡ frames (decoded f))
       × (take (frame_size * n) (read_outcome f table).left ≡ decoded f)
   unfolding read_rejection
@@ -118,7 +118,7 @@ module _ (f : List ℕ) where
 
   -- an accepted file is read into every table that has six bytes for each line
   pub accepted-read : (table : List ℕ) → AcceptedFile f → frame_size * frames (decoded f) ≤ length table
-      → read_outcome f table ≡ Nodes (frames (decoded f)) leaving (decoded f ++ drop (length (decoded f)) table)
+      → read_outcome f table ≡ Ok (frames (decoded f)) leaving (decoded f ++ drop (length (decoded f)) table)
   unfolding read_rejection
   accepted-read table e room =
       let p = (accepted-table e).0 in
@@ -126,7 +126,7 @@ module _ (f : List ℕ) where
 
   -- into a table that has room for every file, the reader rejects by questions 1 to 9 and 16 only
   pub long-enough-rejected : (table : List ℕ) → max_table ≤ length table → (r : Rejection)
-      → Rejected r ≡ (read_outcome f table).answer → file_rejection f ≡ some r
+      → Err r ≡ (read_outcome f table).answer → file_rejection f ≡ some r
   unfolding read_rejection
   long-enough-rejected table room r e = by-questions (file_rejection f) refl
     where
@@ -134,4 +134,4 @@ module _ (f : List ℕ) where
       by-questions none p =
           let at_most = (accepted-formed (decoded f) (accepted-table p).1).at_most in
           let nodes = e ∙ ap (λ o. o.answer) (accepted-read table p (omega arith)) in clash (cc)
-      by-questions (some x) p = let same : Rejected r ≡ Rejected x = (rw p at e) in cc
+      by-questions (some x) p = let same : Err r ≡ Err x = (rw p at e) in cc

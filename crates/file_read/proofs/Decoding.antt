@@ -1,10 +1,10 @@
 -- The loop that decodes a file: what holds after n lines, and that each line, stored behind the ones before, keeps it.
-use Rattle.prelude.proofs.{ℕ, ◌+◌, ◌*◌, ◌≤◌, ◌<◌, ◌≡◌, refl, sym, ap, ◌∙◌, true, false, Option, none, some, List, ◌++◌}
+use Rattle.prelude.proofs.{ℕ, ◌+◌, ◌*◌, ◌≤◌, ◌<◌, ◌≡◌, refl, sym, ap, ◌∙◌, true, false, Option, none, some, List}
+use Rattle.prelude.proofs.{◌++◌, Ok, Err}
 use Rattle.prelude.proofs.{append-nil, append_assoc, length, take, drop, length-append, drop_of_length-le, sets}
 use Rattle.prelude.proofs.{sets-eq, take_at, length-take-le, arith}
 use Rattle.lists.proofs.Choice.{clash}
 use Rattle.table.specs.declared.Rejection.{Rejection}
-use Rattle.table.specs.declared.Checked.TheVariants.{Nodes, Rejected}
 use Rattle.table.specs.{frame_size, frames}
 use Rattle.file_line.specs.{line_digits, bytes_of, bytes_at, is_line_at, lines_of, decode, decoded}
 use Rattle.file_line.proofs.Lines.{line-bytes}
@@ -23,7 +23,7 @@ stored table bs n h six =
 
 -- a rejection says nothing of the table
 pub decoded-refused : (f : List ℕ) (x : Option Rejection) (table : List ℕ) (r : Rejection) → x ≡ some r
-    → Decoded f x table (Rejected r)
+    → Decoded f x table (Err r)
 decoded-refused f x table r e =
     record {
       answered = rw e;
@@ -50,7 +50,7 @@ decoding-none f table =
 
 module _ (f table : List ℕ) (at n : ℕ) (room : LongEnough f table) (d : Decoding f table at n) where
   -- at the end of the file
-  pub decoding-all : length f ≤ at → Decoded f (file_check3 f) table (Nodes n)
+  pub decoding-all : length f ≤ at → Decoded f (file_check3 f) table (Ok n)
   unfolding lines_of each_line decode
   decoding-all h =
       let passed : file_check3 f ≡ none = d.passed ∙ rw (drop_of_length-le f h) in
@@ -67,7 +67,7 @@ module _ (f table : List ℕ) (at n : ℕ) (room : LongEnough f table) (d : Deco
   module _ (inside : at < length f) where
     -- a line that is not as it must be
     pub decoding-stop : (after : List ℕ) → is_line_at f at ≡ false
-        → Decoded f (file_check3 f) after (Rejected (record { number = 3; place = n }))
+        → Decoded f (file_check3 f) after (Err (record { number = 3; place = n }))
     decoding-stop after e = decoded-refused f (file_check3 f) after _ (d.passed ∙ lines-stop f at n inside e)
 
     -- a line stored behind the ones before

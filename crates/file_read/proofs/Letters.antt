@@ -1,8 +1,8 @@
 -- Question 16: the loop over the lines of a file whose lines have passed question 3; what holds after n lines.
-use Rattle.prelude.proofs.{ℕ, ◌+◌, ◌*◌, ◌≤◌, ◌<◌, ◌≡◌, refl, ◌∙◌, Bool, true, false, none, some, List, [], ◌∷◌, length}
+use Rattle.prelude.proofs.{ℕ, ◌+◌, ◌*◌, ◌≤◌, ◌<◌, ◌≡◌, refl, ◌∙◌, Bool, true, false, none, some, List, [], ◌∷◌}
+use Rattle.prelude.proofs.{length, Ok}
 use Rattle.prelude.proofs.{drop, drop_of_length-le, eqb, arith, dec_lt}
 use Rattle.lists.proofs.Choice.{or-false-both}
-use Rattle.table.specs.declared.Checked.TheVariants.{Nodes}
 use Rattle.table.specs.{answer}
 use Rattle.table.proofs.Stated.{both-passed}
 use Rattle.file_hex.specs.{is_lowercase}
@@ -46,7 +46,7 @@ module _ (f : List ℕ) where
 
     -- past the last line
     pub lettering-all : length (lines_of f) ≤ n
-        → Nodes (length (lines_of f)) ≡ answer (length (lines_of f)) (file_check16 f)
+        → Ok (length (lines_of f)) ≡ answer (length (lines_of f)) (file_check16 f)
     unfolding each_line
     lettering-all h = rw (l.passed ∙ no_lines (lines_of (drop at f)) (omega (arith, l.many)))
       where

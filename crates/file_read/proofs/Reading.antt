@@ -1,9 +1,8 @@
 -- The reader, question by question: what it answers and what it leaves in the lent table at each way out.
 use Rattle.prelude.proofs.{ℕ, ◌*◌, ◌≤◌, ◌<◌, ◌≡◌, refl, sym, ap, ◌∙◌, Option, none, some, List, ◌++◌, length, take}
+use Rattle.prelude.proofs.{Result, Ok, Err}
 use Rattle.prelude.proofs.{drop, length-take, take-length, arith, lt-ltb, le-ltb, le-leb, lt-leb, ltb-true, leb-true}
 use Rattle.table.specs.declared.Rejection.{Rejection}
-use Rattle.table.specs.declared.Checked.{Checked}
-use Rattle.table.specs.declared.Checked.TheVariants.{Nodes, Rejected}
 use Rattle.table.specs.{frame_size, max_nodes, frames, ◌and_then◌, answer, ◌leaving◌, check1, frames_rejection}
 use Rattle.table.proofs.Stated.{ask-yes, both-passed}
 use Rattle.table.proofs.Asked.{refused, answer-nodes, answer-rejected, answer-of}
@@ -82,9 +81,9 @@ pub front-room : (f : List ℕ) (x : Option Rejection) (table : List ℕ) (n : �
 front-room f x table n w =
     omega (arith, simp length-take at (ap length w.bytes), w.size)
 
-module _ (f : List ℕ) (x : Option Rejection) (table : List ℕ) (r : Checked) (d : Decoded f x table r) where
+module _ (f : List ℕ) (x : Option Rejection) (table : List ℕ) (r : Result ℕ Rejection) (d : Decoded f x table r) where
   -- where they give n nodes
-  pub decoded-front : (x ≡ none → (length f ≤ max_file) × (file_check3 f ≡ none)) → (n : ℕ) → r ≡ Nodes n
+  pub decoded-front : (x ≡ none → (length f ≤ max_file) × (file_check3 f ≡ none)) → (n : ℕ) → r ≡ Ok n
       → Front f x table n
   decoded-front asked n e =
       let a = answer-nodes (frames (decoded f)) n x (sym e ∙ d.answered) in
@@ -101,13 +100,14 @@ module _ (f : List ℕ) (x : Option Rejection) (table : List ℕ) (r : Checked) 
       }
 
   -- where they reject
-  pub decoded-rejected : (y : Rejection) → r ≡ Rejected y → x ≡ some y
+  pub decoded-rejected : (y : Rejection) → r ≡ Err y → x ≡ some y
   decoded-rejected y e = answer-rejected (frames (decoded f)) y x (sym e ∙ d.answered)
 
 module _ (f table : List ℕ) where
   -- questions 1 to 3, whatever comes after them
-  pub lines-refused : (x : Option Rejection) (r : Checked) → Decoded f (lines_rejection f) table r → (y : Rejection)
-      → r ≡ Rejected y → Decoded f (lines_rejection f and_then x) table r
+  pub lines-refused : (x : Option Rejection) (r : Result ℕ Rejection) → Decoded f (lines_rejection f) table r
+      → (y : Rejection)
+      → r ≡ Err y → Decoded f (lines_rejection f and_then x) table r
   lines-refused x r d y e =
       let refused = decoded-rejected f (lines_rejection f) table r d y e in
       rw e (decoded-refused f (lines_rejection f and_then x) table y (rw refused))
@@ -115,12 +115,12 @@ module _ (f table : List ℕ) where
   module _ (n : ℕ) (w : Front f (lines_rejection f) table n) where
     -- the question after them
     pub next-refused : (q x : Option Rejection) (y : Rejection) → q ≡ some y
-        → Decoded f (lines_rejection f and_then q and_then x) table (Rejected y)
+        → Decoded f (lines_rejection f and_then q and_then x) table (Err y)
     next-refused q x y e =
         decoded-refused f (lines_rejection f and_then q and_then x) table y (rw (w.passed, e))
 
     -- questions 4 to 9, put to the front of the table
-    pub frames-asked : (q : Option Rejection) (r : Checked) → q ≡ none
+    pub frames-asked : (q : Option Rejection) (r : Result ℕ Rejection) → q ≡ none
         → r ≡ answer (frames (take (frame_size * n) table)) (frames_rejection (take (frame_size * n) table))
         → Decoded f (lines_rejection f and_then q and_then frames_rejection (decoded f)) table r
     frames-asked q r c e =
@@ -132,10 +132,10 @@ module _ (f table : List ℕ) where
 module _ (f table : List ℕ) where
   -- the answer by itself
   pub read_answer : (read_outcome f table).answer ≡ answer (frames (decoded f)) (read_rejection f table)
-  read_answer = answer-of (read_rejection f table) Rejected table _ _
+  read_answer = answer-of (read_rejection f table) Err table _ _
 
   -- one of questions 1 to 9 and 16 got a "no"
-  pub read-refused : (x : Rejection) → file_rejection f ≡ some x → Rejected x leaving table ≡ read_outcome f table
+  pub read-refused : (x : Rejection) → file_rejection f ≡ some x → Err x leaving table ≡ read_outcome f table
   unfolding read_rejection
   read-refused x e = rw e
 
@@ -150,7 +150,7 @@ module _ (f table : List ℕ) where
     pub read-accepted : (after : List ℕ) → frame_size * n ≤ length table
         → after ≡ take (length (take (frame_size * n) t)) (take (frame_size * n) t)
         ++ drop (length (take (frame_size * n) t)) table
-        → Nodes n leaving after ≡ read_outcome f table
+        → Ok n leaving after ≡ read_outcome f table
     unfolding read_rejection
     read-accepted after h e =
         let same : after ≡ decoded f ++ drop (length (decoded f)) table =

@@ -1,9 +1,7 @@
 -- The reader of a file: its questions in order, its answer, and what it leaves in the lent table.
-use Rattle.std.specs.Prelude.{ℕ, ◌+◌, ◌*◌, ◌≡◌, not, List, [], ◌∷◌, ◌++◌, leb, length, drop}
+use Rattle.std.specs.Prelude.{ℕ, ◌+◌, ◌*◌, ◌≡◌, not, List, [], ◌∷◌, ◌++◌, leb, length, drop, Result, Ok, Err}
 use Rattle.std.proofs.Math.Option.{Option, none}
 use Rattle.table.specs.declared.Rejection.{Rejection}
-use Rattle.table.specs.declared.Checked.{Checked}
-use Rattle.table.specs.declared.Checked.TheVariants.{Nodes, Rejected}
 use Rattle.table.specs.Frame.{frame_size, max_nodes, frames}
 use Rattle.table.specs.Rejection.{ask, ◌and_then◌, unless, Outcome, ◌leaving◌}
 use Rattle.table.specs.Check.{check1, frames_rejection}
@@ -50,7 +48,7 @@ read_rejection f table = file_rejection f and_then file_check10 f table
 
 -- the outcome of a call with a file and a table: the number of nodes, and the frames at the table's front, with what it
 -- held past them; on a "no" the table as it was
-abbrev pub read_outcome : List ℕ → List ℕ → Outcome Checked (List ℕ)
+abbrev pub read_outcome : List ℕ → List ℕ → Outcome (Result ℕ Rejection) (List ℕ)
 read_outcome f table =
-    unless (read_rejection f table) (λ r. Rejected r leaving table)
-    (Nodes (frames (decoded f)) leaving (decoded f ++ drop (length (decoded f)) table))
+    unless (read_rejection f table) (λ r. Err r leaving table)
+    (Ok (frames (decoded f)) leaving (decoded f ++ drop (length (decoded f)) table))

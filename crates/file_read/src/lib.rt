@@ -6,12 +6,11 @@ ghost use Rattle.std.proofs.Math.Option.{none};
 ghost use Rattle.table.specs.Rejection.{answer, ◌leaving◌};
 ghost use Rattle.file_line.specs.Lines.{lines_of};
 ghost use Rattle.file_read.specs.File.{max_file, file_check3, file_check16, file_rejection, read_outcome};
-ghost use Rattle.file_read.specs.Engine.Decoded.{lines_rejection, Decoded, LongEnough};
+ghost use Rattle.file_read.specs.Engine.Decoded.{lines_rejection, Decoded, RoomFor, LongEnough};
+ghost use Rattle.table.specs.Frame.{max_table};
 
 use file_line::{LINE_DIGITS, LINE_SIZE, decode_line, has_lowercase};
-use table::{
-    Checked, EMPTY, FRAME_SIZE, MAX_NODES, MAX_TABLE, NOT_WHOLE, SHORT_BUFFER, TOO_LONG, rejected,
-};
+use table::{FRAME_SIZE, MAX_NODES, MAX_TABLE, Question, Rejection};
 use table_check::check_frames;
 
 // The most bytes of a file.
@@ -24,36 +23,30 @@ pub const SHORT_FILE: usize = LINE_SIZE * SHORT_LINES;
 
 pub const SHORT_TABLE: usize = FRAME_SIZE * SHORT_LINES;
 
-// The number of the question about lowercase letters (SPEC 4.2).
-const LOWERCASE_LETTER: u8 = 16;
-
 // Reads a file into the table: the number of nodes, or the first rejection, and then the table is as it was.
-pub fn read(file: &[u8], table: &mut [u8]) -> Checked
+pub fn read(file: &[u8], table: &mut [u8]) -> Result<usize, Rejection>
     ensures { result leaving table.new ≡ read_outcome file.now table.old }
 {
     if file.len() <= SHORT_FILE {
-        let mut decoded = [0u8; SHORT_TABLE];
-        return read_by(file, &mut decoded, table);
+        return read_by::<SHORT_TABLE>(file, table);
     }
-    let mut decoded = [0u8; MAX_TABLE];
-    read_by(file, &mut decoded, table)
+    read_by::<MAX_TABLE>(file, table)
 }
 
-// The same, with a work array for the frames: the lent table is written to once no question is left.
-fn read_by(file: &[u8], decoded: &mut [u8], table: &mut [u8]) -> Checked
-    requires { length file.now ≤ max_file → LongEnough file.now decoded.old }
+// The same, with a work array of N bytes for the frames: the lent table is written to once no question is left.
+fn read_by<const N: usize>(file: &[u8], table: &mut [u8]) -> Result<usize, Rejection>
+    requires room { length file.now ≤ max_file → RoomFor file.now N }
+    requires few { N ≤ max_table }
     ensures { result leaving table.new ≡ read_outcome file.now table.old }
 {
-    let checked = check_file(file, decoded);
-    let Checked::Nodes(nodes) = checked else {
-        return checked;
-    };
+    let mut decoded = [0u8; N];
+    let nodes = check_file(file, &mut decoded)?;
     let size = FRAME_SIZE * nodes;
     if table.len() < size {
-        return rejected(SHORT_BUFFER, 0);
+        return Err(Question::ShortBuffer.at(0));
     }
     copy_front(&decoded[..size], table);
-    checked
+    Ok(nodes)
 }
 
 // Copies bytes to the front of others. It is a loop, which the compiler makes a memcpy: the library needs that and
@@ -68,66 +61,58 @@ fn copy_front(from: &[u8], to: &mut [u8])
 }
 
 // Questions 1 to 9 and 16: the number of nodes, whose frames then stand at the table's front, or the first rejection.
-fn check_file(file: &[u8], table: &mut [u8]) -> Checked
+fn check_file(file: &[u8], table: &mut [u8]) -> Result<usize, Rejection>
     requires { length file.now ≤ max_file → LongEnough file.now table.old }
     ensures { Decoded file.now (file_rejection file.now) table.new result }
 {
-    let lines = check_lines(file, table);
-    let Checked::Nodes(nodes) = lines else {
-        return lines;
-    };
-    if let Checked::Rejected(rejection) = check_letters(file, nodes) {
-        return Checked::Rejected(rejection);
-    }
-    let end = FRAME_SIZE * nodes;
+    let lines = check_lines(file, table)?;
+    check_letters(file, lines)?;
+    let end = FRAME_SIZE * lines;
     check_frames(&table[..end])
 }
 
 // Questions 1 to 3, which take letters in either case: the number of lines, whose frames then stand at the table's
 // front, or the first rejection.
-pub fn check_lines(file: &[u8], table: &mut [u8]) -> Checked
+pub fn check_lines(file: &[u8], table: &mut [u8]) -> Result<usize, Rejection>
     requires { length file.now ≤ max_file → LongEnough file.now table.old }
     ensures { Decoded file.now (lines_rejection file.now) table.new result }
 {
     if file.len() == 0 {
-        return rejected(EMPTY, 0);
+        return Err(Question::Empty.at(0));
     }
     if MAX_FILE < file.len() {
-        return rejected(TOO_LONG, 0);
+        return Err(Question::TooLong.at(0));
     }
     decode(file, table)
 }
 
 // Question 3: the number of lines, whose frames then stand at the table's front, or the rejection.
-fn decode(file: &[u8], table: &mut [u8]) -> Checked
+fn decode(file: &[u8], table: &mut [u8]) -> Result<usize, Rejection>
     requires { (length file.now ≤ max_file) × (LongEnough file.now table.old) }
     ensures { Decoded file.now (file_check3 file.now) table.new result }
 {
-    let mut at = 0;
-    let mut lines = 0;
-    while at < file.len() {
-        if !decode_line(file, at, table, FRAME_SIZE * lines) {
-            return rejected(NOT_WHOLE, lines);
+    let lines = file.len().div_ceil(LINE_SIZE);
+    for line in 0..lines {
+        if !decode_line(file, LINE_SIZE * line, table, FRAME_SIZE * line) {
+            return Err(Question::NotWhole.at(line));
         }
-        at += LINE_SIZE;
-        lines += 1;
     }
-    Checked::Nodes(lines)
+    Ok(lines)
 }
 
 // Question 16, for a file whose lines have passed question 3: the number of lines, or the rejection.
-fn check_letters(file: &[u8], lines: usize) -> Checked
+fn check_letters(file: &[u8], lines: usize) -> Result<usize, Rejection>
     requires { (file_check3 file.now ≡ none) × (lines ≡ length (lines_of file.now)) }
     ensures { result ≡ answer lines (file_check16 file.now) }
 {
     if has_lowercase(file) {
         return find_lowercase(file, lines);
     }
-    Checked::Nodes(lines)
+    Ok(lines)
 }
 
 // The same, line by line.
-fn find_lowercase(file: &[u8], lines: usize) -> Checked
+fn find_lowercase(file: &[u8], lines: usize) -> Result<usize, Rejection>
     requires { (file_check3 file.now ≡ none) × (lines ≡ length (lines_of file.now)) }
     ensures { result ≡ answer lines (file_check16 file.now) }
 {
@@ -135,8 +120,8 @@ fn find_lowercase(file: &[u8], lines: usize) -> Checked
         let at = LINE_SIZE * line;
         let end = at + LINE_DIGITS;
         if has_lowercase(&file[at..end]) {
-            return rejected(LOWERCASE_LETTER, line);
+            return Err(Question::LowercaseLetter.at(line));
         }
     }
-    Checked::Nodes(lines)
+    Ok(lines)
 }

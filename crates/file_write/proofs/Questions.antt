@@ -1,14 +1,13 @@
 -- The writer, question by question: what it answers and what it leaves in the lent buffer at each way out.
-use Rattle.prelude.proofs.{ℕ, ◌*◌, ◌≤◌, ◌<◌, ◌≡◌, none, List, ◌++◌, length, drop, arith, le-leb, lt-leb, leb-true}
+use Rattle.prelude.proofs.{ℕ, ◌*◌, ◌≤◌, ◌<◌, ◌≡◌, none, List, ◌++◌, length, drop, arith, le-leb, lt-leb, leb-true, Ok}
+use Rattle.prelude.proofs.{Err}
 use Rattle.table.specs.declared.Rejection.{Rejection}
-use Rattle.table.specs.declared.Checked.TheVariants.{Rejected}
 use Rattle.table.specs.{frames, rejection, Accepted, checked}
 use Rattle.table.proofs.Stated.{ask-yes, both-passed}
 use Rattle.table.proofs.Asked.{answer-rejected}
 use Rattle.table.proofs.Acceptance.{accepted-stated}
 use Rattle.file_line.specs.{line_size}
 use Rattle.file_write.specs.{encode, file_of, write_check10, write_rejection, write_outcome}
-use Rattle.file_write.specs.declared.Written.TheVariants.{Length, Rejected as RejectedWrite}
 use Rattle.file_write.proofs.Writing.{encode-length}
 
 module _ (t : List ℕ) where
@@ -31,20 +30,20 @@ module _ (t : List ℕ) where
 
   module _ (file : List ℕ) where
     -- the table is rejected
-    pub table-refused : (r : Rejection) → Rejected r ≡ checked t
-        → record { answer = RejectedWrite r; left = file } ≡ write_outcome t file
+    pub table-refused : (r : Rejection) → Err r ≡ checked t
+        → record { answer = Err r; left = file } ≡ write_outcome t file
     unfolding write_rejection
     table-refused r e = rw (answer-rejected (frames t) r (rejection t) e)
 
     module _ (e : Accepted t) (n : ℕ) (q : n ≡ frames t) where
       -- the buffer is too short
       pub buffer-short : length file < line_size * n
-          → record { answer = RejectedWrite (record { number = 10; place = 0 }); left = file } ≡ write_outcome t file
+          → record { answer = Err (record { number = 10; place = 0 }); left = file } ≡ write_outcome t file
       unfolding write_rejection
       buffer-short h = rw (e, ← q, lt-leb (line_size * n) (length file) h)
 
       -- the file is written
       pub file-written : (after : List ℕ) → line_size * n ≤ length file
           → after ≡ encode n t ++ drop (line_size * n) file
-          → record { answer = Length (line_size * n); left = after } ≡ write_outcome t file
+          → record { answer = Ok (line_size * n); left = after } ≡ write_outcome t file
       file-written after h g = rw (room-passed (length file) e (omega (arith, q)), g, file-length e, q)

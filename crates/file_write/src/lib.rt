@@ -7,11 +7,11 @@ ghost use Rattle.table.specs.Rejection.{◌leaving◌};
 ghost use Rattle.table.specs.Check.{Accepted};
 ghost use Rattle.file_line.specs.Line.{line_size};
 ghost use Rattle.file_write.specs.Encoded.{line_of, encode};
-ghost use Rattle.file_write.specs.Write.{length_given, write_outcome};
+ghost use Rattle.file_write.specs.Write.{write_outcome};
 ghost use Rattle.file_write.specs.Engine.Pairs.{byte_values, digit_pairs};
 
 use file_line::{LINE_DIGITS, LINE_FEED, LINE_SIZE};
-use table::{Checked, FRAME_SIZE, Rejection, SHORT_BUFFER};
+use table::{FRAME_SIZE, Question, Rejection};
 use table_check::check;
 
 // The two digits of each of the 256 bytes, in capital letters and in order.
@@ -35,47 +35,25 @@ const DIGIT_PAIRS: [u8; PAIRS_SIZE] = *b"\
     E0E1E2E3E4E5E6E7E8E9EAEBECEDEEEF\
     F0F1F2F3F4F5F6F7F8F9FAFBFCFDFEFF";
 
-// The answer of the writer: the file's length in bytes, or the first question that got a "no".
-#[derive(Clone, Copy)]
-pub enum Written {
-    Length(usize),
-    Rejected(Rejection),
-}
-
 // Writes the file of an accepted table, in capital letters and with every line closed: its length in bytes, or the
 // first rejection, and then the buffer is as it was.
-pub fn write(table: &[u8], file: &mut [u8]) -> Written
+pub fn write(table: &[u8], file: &mut [u8]) -> Result<usize, Rejection>
     ensures { result leaving file.new ≡ write_outcome table.now file.old }
 {
-    match check(table) {
-        Checked::Nodes(nodes) => write_accepted(table, file, nodes),
-        Checked::Rejected(rejection) => Written::Rejected(rejection),
-    }
-}
-
-// The length that is given; 0 on a rejection.
-pub fn length_given(written: Written) -> usize
-    ensures { result ≡ length_given written }
-{
-    match written {
-        Written::Length(length) => length,
-        Written::Rejected(_) => 0,
-    }
+    let nodes = check(table)?;
+    write_accepted(table, file, nodes)
 }
 
 // The same for an accepted table of so many nodes: only question 10 is still to be asked.
-pub fn write_accepted(table: &[u8], file: &mut [u8], nodes: usize) -> Written
+pub fn write_accepted(table: &[u8], file: &mut [u8], nodes: usize) -> Result<usize, Rejection>
     requires { (Accepted table.now) × (nodes ≡ frames table.now) }
     ensures { result leaving file.new ≡ write_outcome table.now file.old }
 {
     if file.len() < LINE_SIZE * nodes {
-        return Written::Rejected(Rejection {
-            number: SHORT_BUFFER,
-            place: 0,
-        });
+        return Err(Question::ShortBuffer.at(0));
     }
     write_lines(&DIGIT_PAIRS, table, file, nodes);
-    Written::Length(LINE_SIZE * nodes)
+    Ok(LINE_SIZE * nodes)
 }
 
 // The lines of the first nodes of a table, each laid behind the lines already written. The digits of each byte are

@@ -7,14 +7,14 @@ ghost use Rattle.std.specs.Prelude.{◌≡◌};
 ghost use Rattle.gametree.specs.Trees.{other as other_side, better as better_of};
 
 // Who moves at an inner node.
-#[derive(Clone, Copy)]
+#[derive(Clone, Copy, Debug, PartialEq, Eq)]
 pub enum Side {
     Max,
     Min,
 }
 
 // Where a node stands: its depth (the root has 0), and who moves there. (A rejection has a place: SPEC 4.1.)
-#[derive(Clone, Copy)]
+#[derive(Clone, Copy, Debug, PartialEq, Eq)]
 pub struct Position {
     pub depth: u32,
     pub side: Side,
@@ -35,7 +35,7 @@ pub fn better(side: Side, a: u32, b: u32) -> u32
     ensures { result ≡ better_of side a b }
 {
     match side {
-        Side::Max => if a < b { b } else { a },
-        Side::Min => if a < b { a } else { b },
+        Side::Max => a.max(b),
+        Side::Min => a.min(b),
     }
 }

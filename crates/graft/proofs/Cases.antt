@@ -1,9 +1,8 @@
 -- The small grafts, computed from the definitions.
-use Rattle.prelude.proofs.{arith, ◌≡◌, refl, ap₂, map, ◌++◌}
+use Rattle.prelude.proofs.{arith, ◌≡◌, refl, ap₂, map, ◌++◌, Err}
 use Rattle.table.specs.{next, parent_before, position_within, position_of, up_from, children_from, grow, tree_at}
 use Rattle.table.specs.{valuation}
 use Rattle.table.specs.{each_node, frames_rejection, rejection, Accepted, leaves, chain, small}
-use Rattle.table.specs.declared.Checked.TheVariants.{Rejected}
 use Rattle.graft.specs.{root_for, base, child_sources, breadth_first, frame_at, laid_frames, graft_outcome}
 use Rattle.graft.specs.{valuation_from, graft_value, pair, chain_to, buffer, given, refused, far, values}
 use Rattle.graft_questions.specs.{deepest}
@@ -23,7 +22,7 @@ tables-accepted = (refl, refl)
 
 -- 17 with the node as named, by the law: the place of so large a node is not computed
 pub far-node : graft_outcome (small 1 2 3 4) far (pair 5 6) (buffer 60)
-    ≡ record { answer = Rejected (record { number = 17; place = far }); left = buffer 60 }
+    ≡ record { answer = Err (record { number = 17; place = far }); left = buffer 60 }
 far-node =
     let a = tables-accepted in
     let e = graft-no-leaf (small 1 2 3 4) far (pair 5 6) (buffer 60) a.0 a.1 (λ l. omega (arith, l.inside)) in

@@ -1,12 +1,12 @@
 -- What a call leaves, over the outcome that the contract cites: when it gives a number of nodes, what the table at the
 -- buffer's front is then, and what each rejection means.
 use Rattle.prelude.proofs.{ℕ, ◌+◌, ◌-◌, ◌*◌, ◌≤◌, ◌<◌, arith, dec_le, ◌≡◌, sym, ap, subst, ◌∙◌, ⊎_elim, none, some}
+use Rattle.prelude.proofs.{Ok, Err}
 use Rattle.prelude.proofs.{List}
 use Rattle.prelude.proofs.{◌++◌, length, get_or, take, drop, take_at, drop_at}
 use Rattle.lists.proofs.Choice.{is_false, clash}
 use Rattle.gametree.specs.{other, minimax, relabelled}
 use Rattle.table.specs.declared.Rejection.{Rejection}
-use Rattle.table.specs.declared.Checked.TheVariants.{Nodes, Rejected}
 use Rattle.table.specs.{frame_size, max_nodes, max_depth, frames, byte_of, child_count, parent_of, depth_of, side_of}
 use Rattle.table.specs.{tree}
 use Rattle.table.specs.{valuation, rejection, Accepted, answer}
@@ -36,7 +36,7 @@ leaf-other t k a l h e =
     (⊎_elim (λ z. z) (λ m. absurd (omega (arith, m.2))) ((accepted-stated t a).frame k h).mover)
 
 -- a number of nodes is no refusal, and a refusal has one number
-nodes-apart : (n q p : ℕ) → Nodes n ≡ refused q p → ⊥
+nodes-apart : (n q p : ℕ) → Ok n ≡ refused q p → ⊥
 nodes-apart n q p e = clash (cc)
 
 refused-number : (q q' : ℕ) {p p' : ℕ} → refused q p ≡ refused q' p' → q ≡ q'
@@ -48,25 +48,25 @@ module _ (t : List ℕ) (k : ℕ) (u b : List ℕ) where
 
   -- what the questions say is what is answered
   rejected-by : (r : Rejection) → graft_rejection t k u (length b) ≡ some r
-      → (graft_outcome t k u b).answer ≡ Rejected r
+      → (graft_outcome t k u b).answer ≡ Err r
   rejected-by r e = rw e
 
   -- a rejection is the first "no", and the buffer is as it was
-  pub graft-keeps : (r : Rejection) → (graft_outcome t k u b).answer ≡ Rejected r
+  pub graft-keeps : (r : Rejection) → (graft_outcome t k u b).answer ≡ Err r
       → (graft_rejection t k u (length b) ≡ some r) × ((graft_outcome t k u b).left ≡ b)
   graft-keeps r e =
       let p = answer-rejected (graft_size t u) r (graft_rejection t k u (length b)) (sym e ∙ answered) in
       (p, rw p)
 
   -- the tables in turn
-  pub graft-first : (r : Rejection) → rejection t ≡ some r → (graft_outcome t k u b).answer ≡ Rejected r
+  pub graft-first : (r : Rejection) → rejection t ≡ some r → (graft_outcome t k u b).answer ≡ Err r
   graft-first r e = rejected-by r (first-refused t k u (length b) r e)
 
-  pub graft-second : (r : Rejection) → Accepted t → rejection u ≡ some r → (graft_outcome t k u b).answer ≡ Rejected r
+  pub graft-second : (r : Rejection) → Accepted t → rejection u ≡ some r → (graft_outcome t k u b).answer ≡ Err r
   graft-second r a e = rejected-by r (second-refused t k u (length b) r a e)
 
   module _ (a : Accepted t) (c : Accepted u) where
-    by-leaf : (r : Rejection) → leaf_rejection t k u (length b) ≡ some r → (graft_outcome t k u b).answer ≡ Rejected r
+    by-leaf : (r : Rejection) → leaf_rejection t k u (length b) ≡ some r → (graft_outcome t k u b).answer ≡ Err r
     by-leaf r e = rejected-by r (both-accepted t k u (length b) a c ∙ e)
 
     -- 17
@@ -132,13 +132,13 @@ module _ (t : List ℕ) (k : ℕ) (u b : List ℕ) where
         (too_short t k u (length b) (leaf-max t k g.leaf) g.at_most (graftable-deepest t k u (length b) g) h)
 
     -- no "no"
-    pub graft-gives : frame_size * graft_size t u ≤ length b → (graft_outcome t k u b).answer ≡ Nodes (graft_size t u)
+    pub graft-gives : frame_size * graft_size t u ≤ length b → (graft_outcome t k u b).answer ≡ Ok (graft_size t u)
     graft-gives h =
         answered ∙ ap (answer (graft_size t u)) (both-accepted t k u (length b) g.first g.second
         ∙ all_right t k u (length b) (leaf-max t k g.leaf) g.at_most (graftable-deepest t k u (length b) g) h)
 
   -- a call that gives the number of nodes n
-  module _ (n : ℕ) (e : (graft_outcome t k u b).answer ≡ Nodes n) where
+  module _ (n : ℕ) (e : (graft_outcome t k u b).answer ≡ Ok n) where
     passed : (graft_rejection t k u (length b) ≡ none) × (n ≡ graft_size t u)
     passed = answer-nodes (graft_size t u) n (graft_rejection t k u (length b)) (sym e ∙ answered)
 

@@ -1,15 +1,16 @@
 -- The loop that writes the result: before node i the frames of the nodes before it are laid, the known nodes from i on
 -- have their sources in their frames, and what is behind these is as it was.
 use Rattle.prelude.proofs.{ℕ, ◌+◌, ◌*◌, ◌-◌, ◌/◌, ◌%◌, ◌≤◌, ◌<◌, arith, dec_lt, add-one, ◌≡◌, refl, sym, ap, ap₂, ◌∙◌}
-use Rattle.prelude.proofs.{cond, List, [], ◌∷◌, ◌++◌, eqb, length, get_or, take, drop, take-append-drop, sets}
+use Rattle.prelude.proofs.{List, [], ◌∷◌, ◌++◌, length, get_or, take, drop, take-append-drop, sets}
 use Rattle.prelude.proofs.{length-sets, take-take}
-use Rattle.table.specs.{frame_size, two_bytes, frames, first_child}
+use Rattle.table.specs.{frame_size, two_bytes, first_child, child_count}
 use Rattle.table.proofs.Ranges.{up_at}
 use Rattle.graft_questions.specs.{graft_size}
 use Rattle.graft.specs.{root_for, child_sources, breadth_first, known_sources, first_number, renumbered, source_at}
-use Rattle.graft.specs.{frame_at, laid_frames, graft_table, Joined, with_first, Queued}
+use Rattle.graft.specs.{frame_at, laid_frames, graft_table, Joined, SourceIn, with_first, Queued}
+use Rattle.graft.proofs.Joined.{source-count, source-first, source-frame}
 use Rattle.graft.proofs.Listing.{length_more, list-kept, list-child}
-use Rattle.graft.proofs.Sources.{Fitting, Source, first-stated, second-stated, first_in, count_in}
+use Rattle.graft.proofs.Sources.{Fitting, Source, first-stated, first_in, count_in}
 use Rattle.graft.proofs.Sources.{graft-some, source-child, source-waits, source-kind, sources-all}
 use Rattle.graft.proofs.Laid.{children-length}
 use Rattle.graft.proofs.Queue.{take-stored, drop-sets, drop_more, first-before, first-behind, first-stored}
@@ -25,9 +26,9 @@ pub record Writing (t : List ℕ) (k : ℕ) (u b₀ b : List ℕ) (at i : ℕ) :
 
 module _ (t : List ℕ) (k : ℕ) (u : List ℕ) (g : Fitting t k u) where
   -- the root's source is stored
-  pub writing_begins : (b : List ℕ) (v : ℕ) → v ≡ cond (eqb 0 k) (frames t) 0 → frame_size ≤ length b → (b' : List ℕ)
+  pub writing_begins : (b : List ℕ) (v : ℕ) → v ≡ root_for t k 0 → frame_size ≤ length b → (b' : List ℕ)
       → b' ≡ with_first 0 v b → Writing t k u b' b' 1 0
-  unfolding root_for breadth_first laid_frames
+  unfolding breadth_first laid_frames
   writing_begins b v e h b' s =
       record {
         inside = omega arith;
@@ -51,20 +52,20 @@ module _ (t : List ℕ) (k : ℕ) (u : List ℕ) (g : Fitting t k u) where
     source = rw source_is (source-kind t k u g i h)
 
     -- it has a frame in the two tables
-    pub writing-joined : (n : ℕ) → n ≡ frames t → Joined t u n s
-    writing-joined n p =
-        record {
-          number = p;
-          whole = (first-stated t k u g).whole;
-          inside = omega (arith, source.inside, (first-stated t k u g).whole, (second-stated t k u g).whole);
-        }
+    pub writing-joined : Joined t u s
+    writing-joined = record { whole = (first-stated t k u g).whole; inside = source.inside }
 
-    module _ (n : ℕ) (c : n ≡ count_in t k u s) where
+    -- node v of the table a is that source, and has n children
+    module _ {a : List ℕ} {v r : ℕ} (x : SourceIn t u s a v r) (n : ℕ) (d : n ≡ child_count a v) where
+      counted : n ≡ count_in t k u s
+      counted = d ∙ source-count x
+
       -- its children are the next to become known
       known_more : length (known_sources t k u (i + 1)) ≡ at + n
       known_more =
           length_more (child_sources t k u) (root_for t k 0) i
-          ∙ ap₂ ◌+◌ (sym w.here) (children-length t k u (source_at t k u i) ∙ sym (c ∙ ap (count_in t k u) source_is))
+          ∙ ap₂ ◌+◌ (sym w.here)
+          (children-length t k u (source_at t k u i) ∙ sym (counted ∙ ap (count_in t k u) source_is))
 
       pub writing-within : at + n ≤ graft_size t u
       writing-within =
@@ -73,52 +74,57 @@ module _ (t : List ℕ) (k : ℕ) (u : List ℕ) (g : Fitting t k u) where
           (omega (arith, waiting)) in
           omega (arith, l.0, sources-all t k u g)
 
-      module _ (from : ℕ) (p : from ≡ first_in t k u s) where
-        -- their numbers fit two bytes
-        pub writing-fits : (m : ℕ) → m < n → cond (eqb (from + m) k) (frames t) (from + m) < two_bytes
-        unfolding root_for
-        writing-fits m l =
-            rw p (omega (arith, (source-child t k u g s source m (omega (arith, c))).inside, g.at_most))
+      -- they are the sources from r + f on
+      module _ (f : ℕ) (q : f ≡ first_child a v) where
+        begins : r + f ≡ first_in t k u s
+        begins = ap (λ y. r + y) q ∙ source-first x
 
-        known-child : (m : ℕ) → m < n → get_or (known_sources t k u (i + 1)) (at + m) 0 ≡ root_for t k (from + m)
+        -- their numbers fit two bytes
+        pub writing-fits : (m : ℕ) → m < n → root_for t k (r + f + m) < two_bytes
+        writing-fits m l =
+            rw begins (omega (arith, (source-child t k u g s source m (omega (arith, counted))).inside, g.at_most))
+
+        known-child : (m : ℕ) → m < n → get_or (known_sources t k u (i + 1)) (at + m) 0 ≡ root_for t k (r + f + m)
         unfolding child_sources
         known-child m l =
-            let x = source_at t k u i in
-            let few : m < count_in t k u x = omega (arith, c, ap (count_in t k u) source_is) in
+            let o = source_at t k u i in
+            let few : m < count_in t k u o = omega (arith, counted, ap (count_in t k u) source_is) in
             ap (λ a. get_or (known_sources t k u (i + 1)) (a + m) 0) w.here
             ∙ list-child (child_sources t k u) (root_for t k 0) i (i + 1) m (omega arith)
-            (omega (arith, children-length t k u x))
-            ∙ up_at (root_for t k) (first_in t k u x) (count_in t k u x) m few
-            ∙ ap (λ a. root_for t k (a + m)) (sym (p ∙ ap (first_in t k u) source_is))
+            (omega (arith, children-length t k u o))
+            ∙ up_at (root_for t k) (first_in t k u o) (count_in t k u o) m few
+            ∙ ap (λ a. root_for t k (a + m)) (sym (begins ∙ ap (first_in t k u) source_is))
 
         -- a turn of the loop: the frame takes the place of its own source, and its children's sources are queued
         pub writing_step : (child : ℕ) → child ≡ first_number n at → frame_size * graft_size t u ≤ length b
             → (b₁ : List ℕ)
-            → b₁ ≡ sets b (frame_size * i) (renumbered (t ++ u) s child) → (b' : List ℕ)
-            → Queued (λ m. cond (eqb (from + m) k) (frames t) (from + m)) at n b₁ b'
+            → b₁ ≡ sets b (frame_size * i) (renumbered a v child) → (b' : List ℕ)
+            → Queued (λ m. root_for t k (r + f + m)) at n b₁ b'
             → Writing t k u b₀ b' (at + n) (i + 1)
-        unfolding root_for laid_frames frame_at
-        writing_step child f room b₁ y b' q =
-            let a = waiting in
-            let v = renumbered (t ++ u) s child in
+        unfolding laid_frames frame_at
+        writing_step child number room b₁ z b' q =
+            let later = waiting in
+            let frame = renumbered (t ++ u) s child in
+            let y : b₁ ≡ sets b (frame_size * i) frame = z ∙ ap (sets b (frame_size * i)) (source-frame x child) in
             let m = frame_size * (i + 1) in
-            let six : m ≡ frame_size * i + length v = omega arith in
+            let six : m ≡ frame_size * i + length frame = omega arith in
             let known = list-kept (child_sources t k u) (root_for t k 0) i (i + 1) in
             record {
               inside = omega arith;
               here = sym known_more;
-              long = q.long ∙ ap length y ∙ length-sets b (frame_size * i) v ∙ w.long;
+              long = q.long ∙ ap length y ∙ length-sets b (frame_size * i) frame ∙ w.long;
               laid =
                   sym (take-take m (frame_size * at) b' (omega arith)) ∙ ap (take m) q.before
                   ∙ take-take m (frame_size * at) b₁ (omega arith)
                   ∙ rw (y, six, add-one i)
-                  (take-stored v b (frame_size * i) (omega arith)
+                  (take-stored frame b (frame_size * i) (omega arith)
                   ∙ ap₂ ◌++◌ w.laid (ap₂ (renumbered (t ++ u)) source_is
-                  (f ∙ ap₂ first_number (c ∙ ap (count_in t k u) source_is) w.here)));
+                  (number ∙ ap₂ first_number (counted ∙ ap (count_in t k u) source_is) w.here)));
               queue = λ j h l.
                   elim (dec_lt j at) [
                     | yes z ↦ first-before b' b₁ at j q.before z
-                        ∙ first-behind b₁ b (i + 1) j (ap (drop m) y ∙ drop-sets v b (frame_size * i) m (omega arith)) h
+                        ∙ first-behind b₁ b (i + 1) j
+                        (ap (drop m) y ∙ drop-sets frame b (frame_size * i) m (omega arith)) h
                         ∙ w.queue j (omega arith) z
                         ∙ sym (known j (omega arith) (omega (arith, w.here))).1
                     | no z ↦ (let d : at + (j - at) ≡ j = omega arith in
@@ -126,7 +132,7 @@ module _ (t : List ℕ) (k : ℕ) (u : List ℕ) (g : Fitting t k u) where
                   ];
               behind =
                   q.behind ∙ ap (drop (frame_size * (at + n))) y
-                  ∙ drop-sets v b (frame_size * i) (frame_size * (at + n)) (omega arith)
+                  ∙ drop-sets frame b (frame_size * i) (frame_size * (at + n)) (omega arith)
                   ∙ drop_more b b₀ (frame_size * at) (frame_size * (at + n)) (omega arith) w.behind;
             }
 

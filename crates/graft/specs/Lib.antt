@@ -9,7 +9,7 @@ pub use Sources.{known_sources, sources}
 unfoldable pub use Table.{frame_at, laid_frames}
 pub use Table.{first_number, renumbered, source_at, graft_table}
 pub use Outcome.{graft_outcome}
-pub use Engine.Joined.{Joined}
+pub use Engine.Joined.{Joined, SourceIn}
 pub use Engine.Queue.{with_first, Queued}
 unfoldable pub use Results.Grafted.{valuation_from}
 pub use Results.Grafted.{graft_tree, graft_value, handed}

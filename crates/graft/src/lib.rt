@@ -1,36 +1,84 @@
 // Grafting: the tree of a second table in place of a leaf of a first.
 #![tactic(auto)]
 
-ghost use Rattle.std.specs.Prelude.{◌≡◌, ◌++◌, cond, ℕ, ◌+◌, ◌*◌, ◌<◌, ◌≤◌, eqb, length, drop};
+ghost use Rattle.std.specs.Prelude.{◌≡◌, ◌++◌, ℕ, ◌+◌, ◌*◌, ◌<◌, ◌≤◌, length, drop};
 ghost use Rattle.std.proofs.lemmas.List.Edits.{sets};
-ghost use Rattle.table.specs.Frame.{frame_size, max_nodes, two_bytes, frames, first_child, child_count};
+ghost use Rattle.table.specs.Frame.{frame_size, max_nodes, two_bytes, frames};
 ghost use Rattle.table.specs.Rejection.{◌leaving◌};
 ghost use Rattle.graft_questions.specs.Questions.{graft_size};
 ghost use Rattle.graft_questions.specs.Graftable.{Graftable};
-ghost use Rattle.graft.specs.Sources.{base};
+ghost use Rattle.graft.specs.Sources.{root_for};
 ghost use Rattle.graft.specs.Table.{first_number, renumbered, graft_table};
 ghost use Rattle.graft.specs.Outcome.{graft_outcome};
-ghost use Rattle.graft.specs.Engine.Joined.{Joined};
+ghost use Rattle.graft.specs.Engine.Joined.{Joined, SourceIn};
 ghost use Rattle.graft.specs.Engine.Queue.{with_first, Queued};
 
 use graft_questions::ask;
-use table::{Checked, FRAME_SIZE, child_count, first_child, frame_count};
+use table::{FRAME_SIZE, Rejection, child_count, first_child, frame_count, put_two_bytes};
 
-// How many values a byte has.
-const BYTE_VALUES: usize = 256;
+// The parts of a graft: two tables, and the leaf of the first that gives way to the second's tree. A source is the
+// number of a node in the first table followed by the second; `root` is the second's root as a source.
+#[derive(Clone, Copy)]
+struct Parts<'a> {
+    first: &'a [u8],
+    node: usize,
+    second: &'a [u8],
+    root: usize,
+    ghost rooted: { root ≡ frames first.now },
+}
+
+// A node of one of the two tables, and the source that this table's root is.
+#[derive(Clone, Copy)]
+struct Source<'a> {
+    table: &'a [u8],
+    node: usize,
+    root: usize,
+}
+
+impl<'a> Parts<'a> {
+    // The second root for the leaf that gives way, every other source as it is.
+    fn replaced(&self, source: usize) -> usize
+        ensures { (result ≡ root_for self.now.first.now self.now.node source)
+            × (result ≤ self.now.root + source) }
+    {
+        if source == self.node {
+            self.root
+        } else {
+            source
+        }
+    }
+
+    // The node that a source is.
+    fn source(&self, number: usize) -> Source<'a>
+        requires { Joined self.now.first.now self.now.second.now number }
+        ensures { SourceIn self.now.first.now self.now.second.now number result.table.now
+            result.node result.root }
+    {
+        if number < self.root {
+            Source {
+                table: self.first,
+                node: number,
+                root: 0,
+            }
+        } else {
+            Source {
+                table: self.second,
+                node: number - self.root,
+                root: self.root,
+            }
+        }
+    }
+}
 
 // Puts the second tree in place of the first's named leaf: the number of nodes of the result, whose table then
 // stands at the buffer's front, or the first rejection, and then the buffer is as it was.
-pub fn graft(first: &[u8], node: usize, second: &[u8], res: &mut [u8]) -> Checked
+pub fn graft(first: &[u8], node: usize, second: &[u8], res: &mut [u8]) -> Result<usize, Rejection>
     ensures { result leaving res.new
         ≡ graft_outcome first.now node second.now res.old }
 {
-    let checked = ask(first, node, second, res.len());
-    let Checked::Nodes(size) = checked else {
-        return checked;
-    };
+    let size = ask(first, node, second, res.len())?;
     write_frames(first, node, second, res, size);
-    checked
+    Ok(size)
 }
 
 // The result's table, node by node in breadth-first order; it has `size` nodes. Until a node is visited, the first two
@@ -42,24 +90,23 @@ fn write_frames(first: &[u8], node: usize, second: &[u8], res: &mut [u8], size: 
         ++ drop (frame_size * size) res.old }
 {
     let root = frame_count(first);
-    put_first_child(res, 0, replaced(root, node, 0));
+    let parts = Parts {
+        first,
+        node,
+        second,
+        root,
+    };
+    put_first_child(res, 0, parts.replaced(0));
     let mut next: usize = 1;
     for i in 0..size {
-        let source = first_child(res, i);
-        let count = count_of(first, second, root, source);
-        let from = first_of(first, second, root, source);
+        let source = parts.source(first_child(res, i));
+        let count = child_count(source.table, source.node);
+        let from = source.root + first_child(source.table, source.node);
         let child = first_number(count, next);
-        put_source(first, second, res, root, source, i, child);
-        put_children(res, next, count, from, node, root);
+        put_frame(source.table, res, source.node, i, child);
+        put_children(&parts, res, next, count, from);
         next += count;
     }
-}
-
-// The root for the named node, every other source as it is.
-fn replaced(root: usize, node: usize, source: usize) -> usize
-    ensures { (result ≡ cond (eqb source node) root source) × (result ≤ root + source) }
-{
-    if source == node { root } else { source }
 }
 
 // The first child of a node with so many children, numbered from `next` on: a leaf's is 0.
@@ -69,55 +116,8 @@ fn first_number(count: usize, next: usize) -> usize
     if count == 0 { 0 } else { next }
 }
 
-// The number of children of a source. Sources below `root`, the second table's root, are nodes of the first.
-fn count_of(first: &[u8], second: &[u8], root: usize, source: usize) -> usize
-    requires { Joined first.now second.now root source }
-    ensures { (result ≡ child_count (first.now ++ second.now) source) × (result < 256) }
-{
-    if source < root {
-        child_count(first, source)
-    } else {
-        child_count(second, source - root)
-    }
-}
-
-// The number of a source's first child, as a source.
-fn first_of(first: &[u8], second: &[u8], root: usize, source: usize) -> usize
-    requires { (Joined first.now second.now root source) × (root ≤ max_nodes) }
-    ensures { (result ≡ base first.now source
-        + first_child (first.now ++ second.now) source) × (result < max_nodes + two_bytes) }
-{
-    if source < root {
-        first_child(first, source)
-    } else {
-        root + first_child(second, source - root)
-    }
-}
-
-// The frame of the result's node i: its source's, with another first child.
-fn put_source(
-    first: &[u8],
-    second: &[u8],
-    res: &mut [u8],
-    root: usize,
-    source: usize,
-    i: usize,
-    child: usize,
-)
-    requires joined { Joined first.now second.now root source }
-    requires i_bound { (i < frames res.old) × (child < two_bytes) }
-    ensures { res.new ≡ sets res.old (frame_size * i)
-        (renumbered (first.now ++ second.now) source child) }
-{
-    if source < root {
-        put_frame(first, res, source, i, child);
-    } else {
-        put_frame(second, res, source - root, i, child);
-    }
-}
-
-// The same for a source that is a node of this table. All four bytes that stay the same are read before any is written,
-// so that the compiler can copy them at once.
+// The frame of the result's node i: that of this node, with another first child. All four bytes that stay the same are
+// read before any is written, so that the compiler can copy them at once.
 fn put_frame(table: &[u8], res: &mut [u8], node: usize, i: usize, child: usize)
     requires { (node < frames table.now) × (i < frames res.old) × (child < two_bytes) }
     ensures { res.new
@@ -137,24 +137,22 @@ fn put_frame(table: &[u8], res: &mut [u8], node: usize, i: usize, child: usize)
 }
 
 // Queues the sources of `count` children, the nodes from `next` on: the sources from `from` on, with the second root in
-// place of the named node.
-fn put_children(res: &mut [u8], next: usize, count: usize, from: usize, node: usize, root: usize)
+// place of the leaf.
+fn put_children(parts: &Parts, res: &mut [u8], next: usize, count: usize, from: usize)
     requires count_bound { (next + count ≤ frames res.old) × (from < max_nodes + two_bytes) }
-    requires by_index { (c : ℕ) → c < count → cond (eqb (from + c) node) root (from + c) < two_bytes }
-    ensures { Queued (λ c. cond (eqb (from + c) node) root (from + c)) next count
+    requires by_index { (c : ℕ) → c < count → root_for parts.now.first.now parts.now.node (from + c) < two_bytes }
+    ensures { Queued (λ c. root_for parts.now.first.now parts.now.node (from + c)) next count
         res.old res.new }
 {
     for c in 0..count {
-        put_first_child(res, next + c, replaced(root, node, from + c));
+        put_first_child(res, next + c, parts.replaced(from + c));
     }
 }
 
-// A number in the first two bytes of a node's frame, high byte first.
+// A number in the first two bytes of a node's frame.
 fn put_first_child(res: &mut [u8], node: usize, number: usize)
     requires { (node < frames res.old) × (number < two_bytes) }
     ensures { res.new ≡ with_first node number res.old }
 {
-    let at = FRAME_SIZE * node;
-    res[at] = (number / BYTE_VALUES) as u8;
-    res[at + 1] = (number % BYTE_VALUES) as u8;
+    put_two_bytes(res, node, 0, number as u16);
 }

@@ -67,6 +67,12 @@ pub record Ascent (t : List ℕ) (k : ℕ) (q : Position) (i : ℕ) : Type 0 whe
   pub inside : i < frames t
   pub stands : position_of t k ≡ below (position_of t i) q
 
+-- the same while i's parent is sought, which is none of the nodes from `next` on
+pub record Climb (t : List ℕ) (k : ℕ) (q : Position) (i next : ℕ) : Type 0 where
+  pub ascent : Ascent t k q i
+  pub before : next ≤ i
+  pub parent : 0 < i → parent_of t i < next
+
 module _ (t : List ℕ) (k : ℕ) where
   pub ascent-begins : k < frames t → Ascent t k root_position k
   ascent-begins h = record { inside = h; stands = sym (below-itself (position_of t k)) }
@@ -86,3 +92,31 @@ module _ (t : List ℕ) (k : ℕ) where
   -- no position on the way is deeper than the node
   pub ascent-depth : (q : Position) (i : ℕ) → Ascent t k q i → q.depth ≤ k
   ascent-depth q i a = omega (arith, ap (λ p. p.depth) a.stands, depth-at-most t k)
+
+module _ (t : List ℕ) (wf : WellFormed t) (k : ℕ) where
+  pub climb-begins : k < frames t → Climb t k root_position k k
+  climb-begins h = record { ascent = ascent-begins t k h; before = omega arith; parent = parent-less t k }
+
+  module _ (q : Position) (i next : ℕ) (c : Climb t k q i (suc next)) where
+    -- the node to the left is i's parent: the climb goes on there
+    pub climb_up : is_child t next i ≡ true → Climb t k (child_position t i q) next next
+    climb_up e =
+        let above : next ≡ parent_of t i = parent-found t wf next i (omega (arith, c.ascent.inside, c.before)) e in
+        record {
+          ascent = rw above (ascent-step t k q i (omega (arith, c.before)) c.ascent);
+          before = omega arith;
+          parent = parent-less t next;
+        }
+
+    -- or it is not
+    pub climb-left : is_child t next i ≡ false → Climb t k q i next
+    climb-left e =
+        record {
+          ascent = c.ascent;
+          before = omega (arith, c.before);
+          parent = λ l. parent-earlier t wf next i l c.ascent.inside (omega (arith, c.parent l)) e;
+        }
+
+  pub climb_ends : (q : Position) (i next : ℕ) → next ≤ 0 → Climb t k q i next → q ≡ position_of t k
+  climb_ends q zero next l c = ascent-ends t k q 0 (omega arith) c.ascent
+  climb_ends q (suc i) next l c = absurd (omega (arith, c.parent (omega arith)))

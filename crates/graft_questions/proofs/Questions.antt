@@ -19,16 +19,6 @@ same-max Max e = refl
 same-max Min e = absurd (true-not-false e refl)
 
 module _ (t : List ℕ) (k : ℕ) where
-  -- the test of a leaf with Max to move in two steps: is it a leaf, and does Max move there?
-  pub not-leaf : ltb k (frames t) && eqb (child_count t k) 0 ≡ false → is_max_leaf t k ≡ false
-  not-leaf e = rw e
-
-  pub leaf-side : ltb k (frames t) && eqb (child_count t k) 0 ≡ true → same (side_of t k) Max ≡ is_max_leaf t k
-  leaf-side e = rw e
-
-  pub leaf-inside : ltb k (frames t) && eqb (child_count t k) 0 ≡ true → k < frames t
-  leaf-inside e = ltb-true k (frames t) (and_both _ _ e).0
-
   -- the test says what it is for
   pub max-leaf : is_max_leaf t k ≡ true → MaxLeaf t k
   max-leaf e =

@@ -1,10 +1,10 @@
 -- The questions of a graft, in order.
-use Rattle.std.specs.Prelude.{ℕ, zero, suc, ◌+◌, ◌-◌, ◌*◌, max, Bool, ◌&&◌, List, ltb, leb, eqb}
+use Rattle.std.specs.Prelude.{ℕ, zero, suc, ◌+◌, ◌-◌, ◌*◌, max, Bool, ◌&&◌, List, leb}
 use Rattle.std.proofs.Math.Option.{Option}
 use Rattle.gametree.specs.declared.Side.TheVariants.{Max}
 use Rattle.gametree.specs.Certificate.{same}
 use Rattle.table.specs.declared.Rejection.{Rejection}
-use Rattle.table.specs.Frame.{frame_size, max_nodes, max_depth, frames, child_count}
+use Rattle.table.specs.Frame.{frame_size, max_nodes, max_depth, frames, is_leaf}
 use Rattle.table.specs.Position.{depth_of, side_of}
 use Rattle.table.specs.Rejection.{ask, ◌and_then◌}
 use Rattle.table.specs.Check.{rejection}
@@ -15,7 +15,7 @@ graft_size t u = frames t + frames u - 1
 
 -- is k a leaf with Max to move?
 abbrev pub is_max_leaf : (t : List ℕ) (k : ℕ) → Bool
-is_max_leaf t k = ltb k (frames t) && eqb (child_count t k) 0 && same (side_of t k) Max
+is_max_leaf t k = is_leaf t k && same (side_of t k) Max
 
 -- the greatest depth of the first n nodes
 unfoldable pub deepest : (t : List ℕ) (n : ℕ) → ℕ

@@ -1,17 +1,19 @@
 -- The root's bounds where all leaves but one are known, and the smallest score of that leaf by them.
 use Rattle.prelude.proofs.{ℕ, ◌≤◌, ◌<◌, arith, ℕ_discrete, ◌≡◌, refl, sym, ap, ◌∙◌, true, List, ltb, eqb, length}
+use Rattle.std.specs.Prelude.{Option, IfSome}
 use Rattle.prelude.proofs.{get_or}
 use Rattle.prelude.proofs.{set, get_or-set_same, get_or-set_other, ltb-true, eqb-true, eq-eqb, ne_eqb}
 use Rattle.lists.proofs.Choice.{and_both}
 use Rattle.gametree.specs.{Score, least, greatest, minimax, substituted, clamp}
 use Rattle.gametree_theory.proofs.Minimax.Grafts.{minimax-same}
 use Rattle.gametree_theory.proofs.Minimax.OneLeaf.{low-high, median}
-use Rattle.table.specs.{max_depth, frames, child_count, depth_of, tree, valuation, leaf_score, WellFormed, Accepted}
+use Rattle.table.specs.{is_leaf, max_depth, frames, child_count, depth_of, tree, valuation, leaf_score, WellFormed}
+use Rattle.table.specs.{Accepted}
 use Rattle.table.proofs.Acceptance.{accepted-stated}
 use Rattle.table.proofs.Proper.{every-leaf}
 use Rattle.table.proofs.Worth.{score-kept}
 use Rattle.certificate_bounds.specs.{marked, bound_of}
-use Rattle.leaf_value.specs.{is_leaf, root_score, smallest, first_score, score_count, candidate, held}
+use Rattle.leaf_value.specs.{root_score, smallest, first_score, score_count, candidate, as_option}
 use Rattle.leaf_value.proofs.First.{first-same}
 use Rattle.leaf_value.proofs.Candidates.{candidate-below, candidate-smallest}
 
@@ -51,7 +53,8 @@ module _ (t : List ℕ) (a : Accepted t) (k : ℕ) (h : k < frames t) where
       median (valuation t) k (leaf_score (depth_of t k) s) (omega (arith, c.1)) (tree t)
 
   -- so the smallest score that reaches w is the first candidate that does
-  pub smallest-candidate : (w : ℕ) → Score w → held (candidate (low t k) (high t k) (depth_of t k) w) ≡ smallest t k w
+  pub smallest-candidate : (w : ℕ) → Score w
+      → as_option (candidate (low t k) (high t k) (depth_of t k) w) ≡ smallest t k w
   unfolding smallest
   smallest-candidate w i =
       candidate-smallest (low t k) (high t k) (depth_of t k) w
@@ -60,8 +63,8 @@ module _ (t : List ℕ) (a : Accepted t) (k : ℕ) (h : k < frames t) where
       ap (λ r. eqb r w) (sym (root-clamped s (omega arith, omega arith))))
 
   -- and what is found by the numbers that the work arrays hold
-  pub found-smallest : (w : ℕ) → Score w → (r l u d : ℕ) → r ≡ candidate l u d w → l ≡ low t k → u ≡ high t k
-      → d ≡ depth_of t k → (held r ≡ smallest t k w) × (r < greatest)
+  pub found-smallest : (w : ℕ) → Score w → (r : Option ℕ) (l u d : ℕ) → r ≡ candidate l u d w → l ≡ low t k
+      → u ≡ high t k → d ≡ depth_of t k → (as_option r ≡ smallest t k w) × IfSome r (λ s. s < greatest)
   found-smallest w i r l u d e p q z =
       let x : r ≡ candidate (low t k) (high t k) (depth_of t k) w = e ∙ rw (p, q, z) in
-      (ap held x ∙ smallest-candidate w i, rw x (candidate-below (low t k) (high t k) (depth_of t k) w i))
+      (ap as_option x ∙ smallest-candidate w i, rw x (candidate-below (low t k) (high t k) (depth_of t k) w))

@@ -1,11 +1,13 @@
 -- Of the scores that reach the wanted one, the smallest is one of four, and they are tried in their order.
-use Rattle.prelude.proofs.{ℕ, zero, suc, ◌+◌, ◌-◌, ◌≤◌, ◌<◌, arith, dec_le, dec_lt, ◌≡◌, refl, sym, ◌∙◌, Bool, true}
-use Rattle.prelude.proofs.{false, cond, ◌&&◌, some, ltb, ltb-true, lt-ltb, eq-eqb, eqb-true, eqb-false}
+use Rattle.prelude.proofs.{ℕ, ◌+◌, ◌-◌, ◌≤◌, ◌<◌, arith, dec_le, dec_lt, ◌≡◌, refl, sym, Bool, true}
+use Rattle.prelude.proofs.{false, cond, ◌&&◌, some, leb, ltb, leb-true, le-leb, ltb-true, lt-ltb, eq-eqb, eqb-true}
+use Rattle.std.specs.Prelude.{Option, Some, None, IfSome}
 use Rattle.lists.proofs.Choice.{cond_cases, is_false, true-not-false, and_both}
-use Rattle.gametree.specs.{Score, least, greatest, clamp}
+use Rattle.gametree.specs.{Score, greatest, clamp}
 use Rattle.table.specs.{max_depth, leaf_score}
 use Rattle.table.proofs.Worth.{won, lost, score-won, score-lost, score-other}
-use Rattle.leaf_value.specs.{first_from, first_score, score_count, reaches, candidate, held}
+use Rattle.leaf_value.specs.{first_from, first_score, score_count, reaches, held_reaches, candidate}
+use Rattle.leaf_value.specs.{as_option}
 use Rattle.leaf_value.proofs.First.{first_found, none_found}
 
 -- how a score comes to count x at depth d: as a loss, as it is, or as a win
@@ -23,10 +25,6 @@ counts d s h =
       ]
       | no p ↦ as_win (omega arith) (score-won d s (omega arith) (omega arith))
     ]
-
-held-some : (s : ℕ) → first_score ≤ s → held s ≡ some s
-held-some zero h = absurd (omega arith)
-held-some (suc s) h = refl
 
 module _ (l u d w : ℕ) where
   -- the score s reaches w
@@ -79,18 +77,25 @@ module _ (l u d w : ℕ) where
           ]
         ]
 
-  -- every candidate is a score
-  pub candidate-below : Score w → candidate l u d w < greatest
-  candidate-below i =
-      cond_cases (λ c. c < greatest) (reaches l u d w first_score) _ _ (λ e. omega arith) (λ e.
-      cond_cases (λ c. c < greatest) (ltb d w && reaches l u d w (w - d)) _ _ (λ e. omega (arith, i)) (λ e.
-      cond_cases (λ c. c < greatest) (reaches l u d w w) _ _ (λ e. i.1) (λ e.
-      cond_cases (λ c. c < greatest) (ltb (w + d) greatest && reaches l u d w (w + d)) _ _
-      (λ e. ltb-true (w + d) greatest (and_both _ _ e).0) (λ e. omega arith))))
+  -- one that is found is a score, and reaches w
+  tried : (s : ℕ) → held_reaches l u d w s ≡ true → (first_score ≤ s) × (s < greatest) × (reaches l u d w s ≡ true)
+  tried s e =
+      let b = and_both (leb first_score s && ltb s greatest) (reaches l u d w s) e in
+      let r = and_both (leb first_score s) (ltb s greatest) b.0 in
+      (leb-true _ _ r.0, ltb-true _ _ r.1, b.1)
 
-  -- a candidate in range that is passed over does not reach w
-  passed : (m n s : ℕ) → ltb m n && reaches l u d w s ≡ false → m < n → Reaches s → ⊥
-  passed m n s e f r = true-not-false (rw (lt-ltb m n f, eq-eqb _ w r)) e
+  -- a score that is passed over does not reach w
+  passed : (s : ℕ) → held_reaches l u d w s ≡ false → first_score ≤ s → s < greatest → Reaches s → ⊥
+  passed s e a b r = true-not-false (rw (le-leb first_score s a, lt-ltb s greatest b, eq-eqb _ w r)) e
+
+  -- every candidate is a score
+  pub candidate-below : IfSome (candidate l u d w) (λ c. c < greatest)
+  candidate-below =
+      let P : Option ℕ → Type 0 = λ r. IfSome r (λ c. c < greatest) in
+      cond_cases P (held_reaches l u d w first_score) _ _ (λ e. (tried _ e).1) (λ _.
+      cond_cases P (held_reaches l u d w (w - d)) _ _ (λ e. (tried _ e).1) (λ _.
+      cond_cases P (held_reaches l u d w w) _ _ (λ e. (tried _ e).1) (λ _.
+      cond_cases P (held_reaches l u d w (w + d)) _ _ (λ e. (tried _ e).1) (λ _. tt))))
 
   module _ (o : l ≤ u) (h : d ≤ max_depth) where
     -- where a score reaches w, a candidate no larger does
@@ -121,45 +126,45 @@ module _ (l u d w : ℕ) where
         by (itself x y) = omega (arith, r y)
         by (win x y) = k (omega arith) y
 
-    -- a candidate that is not tried before, in range, where those before it do not reach w
-    found : (c : ℕ) → first_score ≤ c → c < greatest → reaches l u d w c ≡ true
+    -- a candidate that reaches w, where those before it do not
+    found : (c : ℕ) → held_reaches l u d w c ≡ true
         → ((s : ℕ) → first_score ≤ s → s < c → reaches l u d w s ≡ false)
-        → held c ≡ first_from (reaches l u d w) first_score score_count
-    found c a b e f =
-        held-some c a
-        ∙ sym (first_found _ first_score score_count c
-        (record { from = a; within = omega arith; passes = e; before = f }))
+        → some c ≡ first_from (reaches l u d w) first_score score_count
+    found c e f =
+        let r = tried c e in
+        sym (first_found _ first_score score_count c
+        (record { from = r.0; within = omega (arith, r.1); passes = r.2; before = f }))
 
     -- the first candidate that reaches w is the smallest score that does
     pub candidate-smallest : Score w
-        → held (candidate l u d w) ≡ first_from (reaches l u d w) first_score score_count
+        → as_option (candidate l u d w) ≡ first_from (reaches l u d w) first_score score_count
     candidate-smallest i =
-        by (reaches l u d w first_score) (ltb d w && reaches l u d w (w - d)) (reaches l u d w w)
-        (ltb (w + d) greatest && reaches l u d w (w + d)) refl refl refl refl
+        by (held_reaches l u d w first_score) (held_reaches l u d w (w - d)) (held_reaches l u d w w)
+        (held_reaches l u d w (w + d)) refl refl refl refl
       where
-        by : (b₁ b₂ b₃ b₄ : Bool) → reaches l u d w first_score ≡ b₁ → ltb d w && reaches l u d w (w - d) ≡ b₂
-            → reaches l u d w w ≡ b₃ → ltb (w + d) greatest && reaches l u d w (w + d) ≡ b₄
-            → held (cond b₁ first_score (cond b₂ (w - d) (cond b₃ w (cond b₄ (w + d) least))))
+        by : (b₁ b₂ b₃ b₄ : Bool) → held_reaches l u d w first_score ≡ b₁ → held_reaches l u d w (w - d) ≡ b₂
+            → held_reaches l u d w w ≡ b₃ → held_reaches l u d w (w + d) ≡ b₄
+            → as_option
+            (cond b₁ (Some first_score) (cond b₂ (Some (w - d)) (cond b₃ (Some w) (cond b₄ (Some (w + d)) None))))
             ≡ first_from (reaches l u d w) first_score score_count
-        by true b₂ b₃ b₄ p q r k = found first_score (omega arith) (omega arith) p (λ s a b. absurd (omega arith))
+        by true b₂ b₃ b₄ p q r k = found first_score p (λ s a b. absurd (omega arith))
         by false true b₃ b₄ p q r k =
-            let m = and_both (ltb d w) _ q in
-            let n = ltb-true d w m.0 in
-            found (w - d) (omega arith) (omega (arith, i)) m.1 (λ s a b.
-            none-smaller (w - d) s a b (λ x. absurd (eqb-false _ _ p x)) (λ x y. omega arith) (λ x. omega arith)
-            (λ x y. omega arith))
+            found (w - d) q (λ s a b.
+            none-smaller (w - d) s a b (λ x. absurd (passed first_score p (omega arith) (omega arith) x))
+            (λ x y. omega arith) (λ x. omega arith) (λ x y. omega arith))
         by false false true b₄ p q r k =
-            found w (omega (arith, i)) (omega (arith, i)) r (λ s a b.
-            none-smaller w s a b (λ x. absurd (eqb-false _ _ p x)) (λ x y. absurd (passed d w (w - d) q x y))
-            (λ x. omega arith) (λ x y. omega arith))
+            found w r (λ s a b.
+            none-smaller w s a b (λ x. absurd (passed first_score p (omega arith) (omega arith) x))
+            (λ x y. absurd (passed (w - d) q (omega arith) (omega (arith, i)) y)) (λ x. omega arith)
+            (λ x y. omega arith))
         by false false false true p q r k =
-            let m = and_both (ltb (w + d) greatest) _ k in
-            let n = ltb-true (w + d) greatest m.0 in
-            found (w + d) (omega (arith, i)) n m.1 (λ s a b.
-            none-smaller (w + d) s a b (λ x. absurd (eqb-false _ _ p x))
-            (λ x y. absurd (passed d w (w - d) q x y)) (λ x. absurd (eqb-false _ _ r x)) (λ x y. omega arith))
+            found (w + d) k (λ s a b.
+            none-smaller (w + d) s a b (λ x. absurd (passed first_score p (omega arith) (omega arith) x))
+            (λ x y. absurd (passed (w - d) q (omega arith) (omega (arith, i)) y))
+            (λ x. absurd (passed w r (omega (arith, i)) (omega (arith, i)) x)) (λ x y. omega arith))
         by false false false false p q r k =
             sym (none_found _ first_score score_count (λ s a b.
-            none-smaller greatest s a (omega arith) (λ x. absurd (eqb-false _ _ p x))
-            (λ x y. absurd (passed d w (w - d) q x y)) (λ x. absurd (eqb-false _ _ r x))
-            (λ x y. passed (w + d) greatest (w + d) k x y)))
+            none-smaller greatest s a (omega arith) (λ x. absurd (passed first_score p (omega arith) (omega arith) x))
+            (λ x y. absurd (passed (w - d) q (omega arith) (omega (arith, i)) y))
+            (λ x. absurd (passed w r (omega (arith, i)) (omega (arith, i)) x))
+            (λ x y. passed (w + d) k (omega (arith, i)) x y)))

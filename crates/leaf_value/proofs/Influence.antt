@@ -1,17 +1,18 @@
 -- What the named leaf held before has no influence: two tables that differ in bytes 4 and 5 of that node alone.
 use Rattle.prelude.proofs.{ℕ, ◌<◌, arith, dec_lt, ℕ_discrete, ◌≡◌, refl, sym, ap, ap₂, ◌∙◌, Bool, true, false, List}
+use Rattle.prelude.proofs.{Err}
 use Rattle.prelude.proofs.{eqb}
 use Rattle.prelude.proofs.{ℤ, lt-ltb, le-ltb, eq-eqb, ne_eqb}
 use Rattle.gametree.specs.{minimax, substituted}
 use Rattle.gametree_theory.proofs.Minimax.Grafts.{minimax-same}
-use Rattle.table.specs.{frames, stored_score, depth_of, tree, valuation, leaf_score, value_of, score_of, WellFormed}
+use Rattle.table.specs.{is_leaf, frames, stored_score, depth_of, tree, valuation, leaf_score, value_of, score_of}
+use Rattle.table.specs.{WellFormed}
 use Rattle.table.specs.{unless}
 use Rattle.table.specs.{Accepted, Leaf}
 use Rattle.table.proofs.Acceptance.{accepted-formed}
 use Rattle.table.proofs.Proper.{every-leaf}
 use Rattle.table.proofs.Shapes.{same-position, same-score, same-tree}
-use Rattle.leaf_value.specs.declared.LeastValue.TheVariants.{Rejected}
-use Rattle.leaf_value.specs.{is_leaf, check20, root_score, smallest, answer_for, least_value, first_score, score_count}
+use Rattle.leaf_value.specs.{check20, root_score, smallest, answer_for, least_value, first_score, score_count}
 use Rattle.leaf_value.specs.{root_value, SameBut, held_value}
 use Rattle.leaf_value.proofs.First.{first-same}
 use Rattle.table.proofs.Values.{score-back}
@@ -80,6 +81,6 @@ module _ (t u : List ℕ) (k : ℕ) (d : SameBut t u k) (a : Accepted t) (b : Ac
       by : (c : Bool) → is_leaf t k ≡ c → due t k w ≡ due u k w
       by true e =
           rw (e, sym same_test ∙ e)
-          (ap (λ o. unless (check20 w) Rejected (answer_for k o)) (first-same _ _ first_score score_count (λ s p q.
+          (ap (λ o. unless (check20 w) Err (answer_for k o)) (first-same _ _ first_score score_count (λ s p q.
           ap (λ r. eqb r (score_of w)) (same-root (leaf-is t k e).0 s))))
       by false e = no-leaf t k w e ∙ sym (no-leaf u k w (sym same_test ∙ e))

@@ -1,20 +1,20 @@
 -- What the answer says of the root's value, by values.
 use Rattle.prelude.proofs.{ℕ, ◌≤◌, arith, ◌≡◌, refl, sym, ap, ◌∙◌, ◌↔◌, Bool, true, false, Option, none, some, List}
+use Rattle.prelude.proofs.{Result, Ok, Err}
 use Rattle.prelude.proofs.{leb, eqb, ℤ, nat_abs, ◌<ℤ◌, lt-ltb, le-leb, eq-eqb, leb-true, eqb-true}
 use Rattle.lists.proofs.Choice.{cond_cases, clash, is_false, true-not-false}
 use Rattle.gametree.specs.{Score}
 use Rattle.gametree_theory.proofs.Minimax.Bounds.{minimax-score}
 use Rattle.table.specs.declared.Rejection.{Rejection}
-use Rattle.table.specs.{frames, child_count, depth_of, tree, value_of, score_of, max_value, unless, rejection, Accepted}
+use Rattle.table.specs.{is_leaf, frames, child_count, depth_of, tree, value_of, score_of, max_value, unless, rejection}
+use Rattle.table.specs.{Accepted}
 use Rattle.table.specs.{Leaf}
 use Rattle.table.proofs.Stated.{ask-yes, both-passed}
 use Rattle.table.proofs.Acceptance.{accepted-formed}
 use Rattle.table.proofs.Values.{value-range, score-back}
 use Rattle.table.proofs.Proper.{every-leaf, leaf-scored}
 use Rattle.table.proofs.Worth.{score-kept}
-use Rattle.leaf_value.specs.declared.LeastValue.{LeastValue}
-use Rattle.leaf_value.specs.declared.LeastValue.TheVariants.{Value, Rejected}
-use Rattle.leaf_value.specs.{is_leaf, check19, check20, root_score, smallest, answer_for, value_rejection, least_value}
+use Rattle.leaf_value.specs.{check19, check20, root_score, smallest, answer_for, value_rejection, least_value}
 use Rattle.leaf_value.specs.{first_score, score_count, root_value}
 use Rattle.leaf_value.proofs.First.{found_first, found_none, none_found}
 use Rattle.leaf_value.proofs.Values.{score-range, score-value, same-scores, smaller}
@@ -29,23 +29,23 @@ pub test-leaf : (t : List ℕ) (k : ℕ) → is_leaf t k ≡ true → Leaf t k
 test-leaf t k e = let b = leaf-is t k e in record { inside = b.0; childless = b.1 }
 
 -- an answer is the earlier "no", or what is found
-unless-value : (q : Option Rejection) (a : LeastValue) (v : ℤ) → unless q Rejected a ≡ Value v
-    → (q ≡ none) × (a ≡ Value v)
+unless-value : (q : Option Rejection) (a : Result ℤ Rejection) (v : ℤ) → unless q Err a ≡ Ok v
+    → (q ≡ none) × (a ≡ Ok v)
 unless-value none a v e = (refl, e)
 unless-value (some r) a v e = clash (cc)
 
-found_some : (k : ℕ) (o : Option ℕ) (v : ℤ) → answer_for k o ≡ Value v → (s : ℕ) × (o ≡ some s) × (value_of s ≡ v)
+found_some : (k : ℕ) (o : Option ℕ) (v : ℤ) → answer_for k o ≡ Ok v → (s : ℕ) × (o ≡ some s) × (value_of s ≡ v)
 found_some k none v e = clash (cc)
 found_some k (some s) v e = (s, refl, cc)
 
 -- the number of a rejection, and its place
-abbrev number_of : LeastValue → ℕ
-number_of (Value v) = 0
-number_of (Rejected r) = r.number
+abbrev number_of : Result ℤ Rejection → ℕ
+number_of (Ok v) = 0
+number_of (Err r) = r.number
 
-abbrev position_of : LeastValue → ℕ
-position_of (Value v) = 0
-position_of (Rejected r) = r.place
+abbrev position_of : Result ℤ Rejection → ℕ
+position_of (Ok v) = 0
+position_of (Err r) = r.place
 
 module _ (t : List ℕ) (k : ℕ) (w : ℤ) where
   -- what holds once 1 to 9, 19 and 20 have passed
@@ -91,11 +91,11 @@ module _ (t : List ℕ) (k : ℕ) (w : ℤ) where
     )
 
     -- where a value does, one is given
-    pub value-exists : (u : ℤ) → nat_abs u ≤ max_value → root_value t k u ≡ w → (v : ℤ) × (least_value t k w ≡ Value v)
+    pub value-exists : (u : ℤ) → nat_abs u ≤ max_value → root_value t k u ≡ w → (v : ℤ) × (least_value t k w ≡ Ok v)
     unfolding smallest
     value-exists u h e = by (smallest t k (score_of w)) refl
       where
-        by : (o : Option ℕ) → smallest t k (score_of w) ≡ o → (v : ℤ) × (least_value t k w ≡ Value v)
+        by : (o : Option ℕ) → smallest t k (score_of w) ≡ o → (v : ℤ) × (least_value t k w ≡ Ok v)
         by (some s) p = (value_of s, asked-found a ∙ ap (answer_for k) p)
         by none p =
             let i = score-range u h in
@@ -118,7 +118,7 @@ module _ (t : List ℕ) (k : ℕ) (w : ℤ) where
     pub reaches : root_value t k v ≡ w
     pub smallest : (u : ℤ) → nat_abs u ≤ max_value → u <ℤ v → root_value t k u ≡ w → ⊥
 
-  pub given : (v : ℤ) → least_value t k w ≡ Value v → Given v
+  pub given : (v : ℤ) → least_value t k w ≡ Ok v → Given v
   unfolding least_value smallest
   given v e =
       let p = unless-value (value_rejection t k w) _ v e in

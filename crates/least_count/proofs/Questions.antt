@@ -1,11 +1,11 @@
 -- The questions of a width and a depth: which "no" is the first, when there is none, and what an answer says of them.
 use Rattle.prelude.proofs.{ℕ, ◌≤◌, ◌<◌, arith, ◌≡◌, refl, ◌⊎◌, inl, inr, Option, none, some, ltb, ltb-true, leb-true}
+use Rattle.prelude.proofs.{Ok, Err}
 use Rattle.prelude.proofs.{lt-ltb, le-leb, lt-leb}
 use Rattle.lists.proofs.Choice.{clash, and_both}
 use Rattle.table.specs.declared.Rejection.{Rejection}
 use Rattle.table.specs.{max_children, max_depth, unless}
 use Rattle.table.proofs.Stated.{ask-yes, both-passed}
-use Rattle.least_count.specs.declared.Least.TheVariants.{Leaves, Rejected}
 use Rattle.least_count.specs.{check22, check23, least_rejection}
 
 -- a width outside the table, whatever the depth
@@ -31,11 +31,11 @@ passed-inside w d e =
     (ltb-true _ _ q.0, leb-true _ _ q.1, leb-true _ _ (ask-yes _ _ _ p.1))
 
 -- a count is given where there is no "no", and a rejection is the first one
-pub given-leaves : (n m : ℕ) (o : Option Rejection) → unless o Rejected (Leaves n) ≡ Leaves m → (o ≡ none) × (m ≡ n)
+pub given-leaves : (n m : ℕ) (o : Option Rejection) → unless o Err (Ok n) ≡ Ok m → (o ≡ none) × (m ≡ n)
 given-leaves n m none e = (refl, cc)
 given-leaves n m (some r) e = clash (cc)
 
-pub given-rejected : (n : ℕ) (r : Rejection) (o : Option Rejection) → unless o Rejected (Leaves n) ≡ Rejected r
+pub given-rejected : (n : ℕ) (r : Rejection) (o : Option Rejection) → unless o Err (Ok n) ≡ Err r
     → o ≡ some r
 given-rejected n r none e = clash (cc)
 given-rejected n r (some q) e = cc

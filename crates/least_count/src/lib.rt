@@ -5,45 +5,25 @@ mod counts;
 
 ghost use Rattle.std.specs.Prelude.{◌≡◌, ◌<◌, ◌≤◌};
 ghost use Rattle.table.specs.Frame.{max_children, max_depth};
-ghost use Rattle.least_count.specs.declared.Least.TheVariants.{Rejected};
 ghost use Rattle.least_count.specs.Rule.{least_count};
 ghost use Rattle.least_count.specs.Answer.{least_answer};
 ghost use Rattle.least_count.specs.Engine.Ruled.{ruled};
 
 use counts::LEAST_COUNTS;
-use table::{MAX_CHILDREN, MAX_DEPTH, Rejection};
-
-// The numbers of the questions about a width and a depth, by what a "no" means (SPEC 4.2).
-pub const WRONG_WIDTH: u8 = 22;
-
-pub const WRONG_DEPTH: u8 = 23;
-
-// The answer: how many leaves, or the first question that got a "no".
-#[derive(Clone, Copy)]
-pub enum Least {
-    Leaves(u16),
-    Rejected(Rejection),
-}
+use table::{MAX_CHILDREN, MAX_DEPTH, Question, Rejection};
 
 // The fewest leaves to expect in a tree where every inner node has so many children, all leaves lie at one depth and
 // the sides alternate; 65,535 is that or more.
-pub fn least_leaves(width: usize, depth: usize) -> Least
+pub fn least_leaves(width: usize, depth: usize) -> Result<u16, Rejection>
     ensures { result ≡ least_answer width depth }
 {
-    if width == 0 || MAX_CHILDREN < width {
-        return rejected(WRONG_WIDTH);
+    if !(1..=MAX_CHILDREN).contains(&width) {
+        return Err(Question::WrongWidth.at(0));
     }
     if MAX_DEPTH < depth {
-        return rejected(WRONG_DEPTH);
+        return Err(Question::WrongDepth.at(0));
     }
-    Least::Leaves(entry(width, depth))
-}
-
-// A "no" to the question of this number; its place is 0.
-fn rejected(number: u8) -> Least
-    ensures { result ≡ Rejected (record { number = number; place = 0 }) }
-{
-    Least::Rejected(Rejection { number, place: 0 })
+    Ok(entry(width, depth))
 }
 
 // The table's entry of a width and a depth.

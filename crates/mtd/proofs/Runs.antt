@@ -1,6 +1,6 @@
 -- The run of passes: what the run gives from the present test and memory, after the passes so far, is what MTD gives.
-use Rattle.prelude.proofs.{ℕ, suc, ◌+◌, ◌≤◌, ◌<◌, arith, ◌≡◌, refl, sym, ap, ap₂, ◌∙◌, subst, true, false, List, []}
-use Rattle.prelude.proofs.{◌++◌, append_assoc, eqb, get_or}
+use Rattle.prelude.proofs.{ℕ, suc, ◌+◌, ◌≤◌, ◌<◌, arith, ◌≡◌, refl, sym, ap, ap₂, ◌∙◌, subst, Bool, true, false}
+use Rattle.prelude.proofs.{List, [], ◌++◌, append_assoc, eqb, get_or}
 use Rattle.gametree.specs.{Tree, greatest, MtdRun, mtd, Memo, memo_high, pass, MemoRun, settled, followed, run, fresh}
 use Rattle.gametree.specs.{memo_mtd, without_memo}
 use Rattle.gametree_theory.proofs.Mtd.Sound.{Kept, Sound, sound}
@@ -16,11 +16,10 @@ use Rattle.certificate_bounds.specs.{marked, evaluate_all, bound_of}
 use Rattle.certificate_bounds.proofs.Listing.{ones_none}
 use Rattle.certificate_flags.specs.{first_equal}
 use Rattle.certificate_flags.proofs.Chosen.{first-same}
-use Rattle.mtd_memory.specs.declared.Tried.{Tried}
-use Rattle.mtd_memory.specs.{Memory, progress_of, memo_of, pass_of, MemoryRoom, HighsRight, first_high, Counted}
+use Rattle.mtd_memory.specs.{Memory, Long, progress_of, memo_of, pass_of, MemoryRoom, HighsRight, first_high, Counted}
 use Rattle.mtd_memory.specs.{VisitReady}
 use Rattle.mtd_memory.specs.{Evaluated, Passed, Fresh, SkipsRight}
-use Rattle.mtd_memory.proofs.Arrays.{Long, room-kept, evaluated-none, evaluated-more, no-skips}
+use Rattle.mtd_memory.proofs.Arrays.{room-kept, evaluated-none, evaluated-more, no-skips}
 
 -- where the highs are right, the first of the root's children whose high is the root's is the one that the marks give
 pub move-right : (t : List ℕ) → WellFormed t → (m : Memory) → HighsRight t m (tree t)
@@ -120,9 +119,9 @@ module _ {t : List ℕ} {q : MtdRun} {m m' : Memory} {test passes : ℕ} (wf : W
         skips = u.skips;
       }
 
-  module _ {m'' : Memory} {r : Tried} (p : Passed t (tree t) test m' m'' r) where
+  module _ {m'' : Memory} {r : Bool} (p : Passed t (tree t) test m' m'' r) where
     -- the last pass: the root is not below
-    pub passing-last : r.answer ≡ true
+    pub passing-last : r ≡ true
         → ((test ≡ q.value) × (passes + 1 ≡ q.passes))
         × ((progress_of m'' ≡ evaluate_all (progress_of m) q.evaluated) × Counted t m'')
     passing-last e =
@@ -134,7 +133,7 @@ module _ {t : List ℕ} {q : MtdRun} {m m' : Memory} {test passes : ℕ} (wf : W
         )
 
     -- another pass: the next test is the root's high
-    module _ (e : r.answer ≡ false) where
+    module _ (e : r ≡ false) where
       next-sound : Sound (valuation t) test (tree t) (memo_of m' (tree t)) (pass_of t test m' (tree t))
       next-sound = sound (valuation t) test (tree t) (memo_of m' (tree t)) (tree-proper t wf).scored u.kept
 

@@ -91,21 +91,21 @@ module _ (t : List ℕ) (wf : WellFormed t) where
       ∙ high-root
 
   -- the steps together: e is cleared to e₁, the passes make it e₂ and the list o₂, and v follows from that
-  pub find-gives : (e e₁ e₂ o o₂ : List ℕ) (r : Settled) (v : ℤ)
+  pub find-gives : (e e₁ e₂ o o₂ : List ℕ) (n : ℕ) (r : Settled) (v : ℤ)
       → e₁ ≡ written (λ k. 0) (frames t) e
       → (r.score ≡ (mtd (valuation t) (tree t)).value) × (r.passes ≡ (mtd (valuation t) (tree t)).passes)
       → r.root_move ≡ first_high t e₂
-      → progress r.leaves e₂ o₂ ≡ evaluate_all (progress 0 e₁ o) (evaluated_by Mtd t)
-      → r.leaves ≡ ones e₂ (frames t)
+      → progress n e₂ o₂ ≡ evaluate_all (progress 0 e₁ o) (evaluated_by Mtd t)
+      → n ≡ ones e₂ (frames t)
       → frames t ≤ length o
       → v ≡ value_of r.score
-      → (record { value = v; root_move = r.root_move; leaves = r.leaves; steps = r.passes } ≡ findings_by Mtd t)
+      → (record { value = v; root_move = r.root_move; leaves = n; steps = r.passes } ≡ findings_by Mtd t)
       × ((e₂ ≡ marks_of (evaluated_by Mtd t) t e) × (o₂ ≡ listed (evaluated_by Mtd t) o))
-  find-gives e e₁ e₂ o o₂ r v cleared settled move evaluated counted room value =
-      let g = first-evaluated r.leaves (frames t) e₁ e₂ o o₂ (evaluated_by Mtd t) evaluated counted room in
+  find-gives e e₁ e₂ o o₂ n r v cleared settled move evaluated counted room value =
+      let g = first-evaluated n (frames t) e₁ e₂ o o₂ (evaluated_by Mtd t) evaluated counted room in
       let a = search-marks t wf (evaluated_by Mtd t) (decides t wf Mtd refl) e e₁ e₂ cleared g.1.0 in
       let x : v ≡ value_of (minimax (valuation t) (tree t)) = value ∙ ap value_of (run-score r.score settled.0) in
       let y = move ∙ high-move e e₂ a in
       let z = g.0 in
-      let n = settled.1 in
+      let p = settled.1 in
       (cc, (a, g.1.1))

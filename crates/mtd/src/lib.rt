@@ -7,18 +7,20 @@ ghost use Rattle.table.specs.Frame.{frames};
 ghost use Rattle.table.specs.Tree.{tree_at, tree, valuation};
 ghost use Rattle.table.specs.Formed.{WellFormed};
 ghost use Rattle.certificate_bounds.specs.Marks.{ones};
-ghost use Rattle.certificate_bounds.specs.Engine.Progress.{progress, evaluate_all};
+ghost use Rattle.certificate_bounds.specs.Engine.Progress.{evaluate_all};
+ghost use Rattle.certificate_bounds.specs.Engine.Evaluations.{progress_of};
 ghost use Rattle.certificate_write.specs.Search.{marks_of, listed};
 ghost use Rattle.methods.specs.declared.Method.TheVariants.{Mtd};
 ghost use Rattle.methods.specs.Rules.{evaluated_by};
 ghost use Rattle.methods.specs.Outcome.{findings_by};
-ghost use Rattle.mtd_memory.specs.Engine.Memory.{memory, first_high, Fresh, VisitReady, Enterable, Passed};
+ghost use Rattle.mtd_memory.specs.Engine.Memory.{memory_of, SameArrays, first_high, Fresh, VisitReady, Enterable};
+ghost use Rattle.mtd_memory.specs.Engine.Memory.{Passed};
 
-use certificate_bounds::clear;
+use certificate_bounds::{Evaluations, clear};
 use certificate_flags::first_equal;
 use gametree::{Position, Side};
 use methods::Findings;
-use mtd_memory::{Seen, Tried, last_tried, look, next_tried, remember, to_try};
+use mtd_memory::{Memory, last_tried};
 use table::{GREATEST, MAX_NODES, child_count, child_position, first_child, frame_count, value};
 
 // What MTD finds in a table that was checked: the marks of the evaluated leaves go into the buffer, and their numbers
@@ -34,105 +36,87 @@ pub fn find(table: &[u8], evaluated: &mut [u8], order: &mut [u16]) -> Findings
     clear(evaluated, frame_count(table));
     let mut highs = [GREATEST; MAX_NODES];
     let mut not_below = [0u16; MAX_NODES];
-    let settled = run_passes(table, evaluated, order, &mut highs, &mut not_below);
-    let value = value(settled.score);
+    let mut evaluations = Evaluations {
+        marks: evaluated,
+        order,
+        leaves: 0,
+    };
+    let mut memory = Memory {
+        evaluations: &mut evaluations,
+        highs: &mut highs,
+        not_below: &mut not_below,
+    };
+    let settled = run_passes(table, &mut memory);
     Findings {
-        value,
+        value: value(settled.score),
         root_move: settled.root_move,
-        leaves: settled.leaves,
+        leaves: evaluations.leaves,
         steps: settled.passes,
     }
 }
 
-// What the passes end with: the test that the root is not below, the first child whose high is the root's, how many
-// leaves were evaluated, and how many passes were made.
+// What the passes end with: the test that the root is not below, the first child whose high is the root's, and how many
+// passes were made.
 #[derive(Clone, Copy)]
 struct Settled {
     score: u32,
     root_move: usize,
-    leaves: usize,
     passes: usize,
 }
 
 // Passes from the greatest test, each with the root's high for the next test, until the root is not below.
-fn run_passes(
-    table: &[u8],
-    evaluated: &mut [u8],
-    order: &mut [u16],
-    highs: &mut [u32],
-    not_below: &mut [u16],
-) -> Settled
-    requires { Fresh table.now (memory 0 evaluated.old order.old highs.old not_below.old) }
+fn run_passes(table: &[u8], memory: &mut Memory<'_, '_>) -> Settled
+    requires { Fresh table.now (memory_of memory.old) }
     ensures score_value { (result.score ≡ (mtd (valuation table.now) (tree table.now)).value)
         × (result.passes ≡ (mtd (valuation table.now) (tree table.now)).passes) }
-    ensures root_move_value { result.root_move ≡ first_high table.now evaluated.new }
-    ensures order_after { progress result.leaves evaluated.new order.new
-        ≡ evaluate_all (progress 0 evaluated.old order.old)
-        (evaluated_by Mtd table.now) }
-    ensures leaves_value { result.leaves ≡ ones evaluated.new (frames table.now) }
+    ensures root_move_value { result.root_move ≡ first_high table.now memory.new.evaluations.now.marks.now }
+    ensures order_after { progress_of memory.new.evaluations.now
+        ≡ evaluate_all (progress_of memory.old.evaluations.now) (evaluated_by Mtd table.now) }
+    ensures leaves_value { memory.new.evaluations.now.leaves
+        ≡ ones memory.new.evaluations.now.marks.now (frames table.now) }
+    ensures same_arrays { SameArrays memory.old memory.new }
 {
     let root = Position {
         depth: 0,
         side: Side::Max,
     };
     let mut test = GREATEST;
-    let mut leaves = 0;
     let mut passes = 0;
-    loop {
-        let tried = visit(
-            table, evaluated, order, highs, not_below, 0, root, test, leaves,
-        );
-        leaves = tried.leaves;
+    // A loop, since how many passes there are is known when the last one ends.
+    let high = loop {
+        let not_below = visit(table, memory, 0, root, test);
+        let high = memory.highs[0];
         passes += 1;
-        if tried.answer {
-            break;
+        if not_below {
+            break high;
         }
-        test = root_high(highs);
-    }
+        test = high;
+    };
     let end = 1 + child_count(table, 0);
-    let root_move = first_equal(highs, 1, end, root_high(highs));
+    let root_move = first_equal(memory.highs, 1, end, high);
     Settled {
         score: test,
         root_move,
-        leaves,
         passes,
     }
-}
-
-// The root's high, which is the next test.
-fn root_high(highs: &[u32]) -> u32
-    requires { 0 < length highs.now }
-    ensures { result ≡ get_or highs.now 0 0 }
-{
-    highs[0]
 }
 
 // A pass at a node: it is answered at once, or entered.
 fn visit(
     table: &[u8],
-    evaluated: &mut [u8],
-    order: &mut [u16],
-    highs: &mut [u32],
-    not_below: &mut [u16],
+    memory: &mut Memory<'_, '_>,
     node: usize,
     position: Position,
     test: u32,
-    leaves: usize,
-) -> Tried
-    requires { VisitReady table.now (memory leaves evaluated.old order.old highs.old not_below.old) node
-        position }
-    ensures { Passed table.now (tree_at table.now node) test
-        (memory leaves evaluated.old order.old highs.old not_below.old)
-        (memory result.leaves evaluated.new order.new highs.new not_below.new)
+) -> bool
+    requires { VisitReady table.now (memory_of memory.old) node position }
+    ensures passed { Passed table.now (tree_at table.now node) test (memory_of memory.old) (memory_of memory.new)
         result }
+    ensures same_arrays { SameArrays memory.old memory.new }
 {
-    match look(
-        table, evaluated, order, highs, not_below, node, position, test, leaves,
-    ) {
-        Seen::Answered(tried) => tried,
-        Seen::Open => enter(
-            table, evaluated, order, highs, not_below, node, position, test, leaves,
-        ),
+    match memory.look(table, node, position, test) {
+        Some(answer) => answer,
+        None => enter(table, memory, node, position, test),
     }
 }
 
@@ -140,51 +124,38 @@ fn visit(
 // they are open; the node keeps their answer and the best of their highs.
 fn enter(
     table: &[u8],
-    evaluated: &mut [u8],
-    order: &mut [u16],
-    highs: &mut [u32],
-    not_below: &mut [u16],
+    memory: &mut Memory<'_, '_>,
     node: usize,
     position: Position,
     test: u32,
-    mut leaves: usize,
-) -> Tried
-    requires visit_ready { VisitReady table.now (memory leaves evaluated.old order.old highs.old not_below.old) node
-        position }
-    requires enterable { Enterable table.now (memory leaves evaluated.old order.old highs.old not_below.old) node
-        test }
-    ensures { Passed table.now (tree_at table.now node) test
-        (memory leaves evaluated.old order.old highs.old not_below.old)
-        (memory result.leaves evaluated.new order.new highs.new not_below.new)
+) -> bool
+    requires visit_ready { VisitReady table.now (memory_of memory.old) node position }
+    requires enterable { Enterable table.now (memory_of memory.old) node test }
+    ensures passed { Passed table.now (tree_at table.now node) test (memory_of memory.old) (memory_of memory.new)
         result }
+    ensures same_arrays { SameArrays memory.old memory.new }
 {
     let side = position.side;
     let first = first_child(table, node);
     let end = first + child_count(table, node);
-    let tries = to_try(side, highs, not_below, node, first, end, test);
-    let mut child = tries.from;
+    let tries = memory.to_try(side, node, first..end, test);
+    let mut child = tries.start;
+    // No `for`: which child comes next is told by the highs, and the last child's answer ends the loop.
     let answer = loop {
-        child = next_tried(side, highs, child, tries.to, test);
-        if child == tries.to {
+        let Some(next) = memory.next_tried(side, child..tries.end, test) else {
             break false;
-        }
-        let at = child_position(table, child, position);
-        let tried = match look(
-            table, evaluated, order, highs, not_below, child, at, test, leaves,
-        ) {
-            Seen::Answered(tried) => tried,
-            Seen::Open => enter(
-                table, evaluated, order, highs, not_below, child, at, test, leaves,
-            ),
         };
-        leaves = tried.leaves;
-        child += 1;
-        if last_tried(side, tried.answer, child, tries.to) {
-            break tried.answer;
+        let at = child_position(table, next, position);
+        // As in `visit`, which is not called here: the two would then call each other.
+        let answer = match memory.look(table, next, at, test) {
+            Some(answer) => answer,
+            None => enter(table, memory, next, at, test),
+        };
+        child = next + 1;
+        if last_tried(side, answer, child, tries.end) {
+            break answer;
         }
     };
-    remember(
-        highs, not_below, node, first, child, tries, end, side, answer,
-    );
-    Tried { answer, leaves }
+    memory.remember(node, side, first..end, tries, child, answer);
+    answer
 }

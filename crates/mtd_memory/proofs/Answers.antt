@@ -14,7 +14,6 @@ use Rattle.table.specs.{frames, first_child, child_count, side_of, children_from
 use Rattle.table.proofs.Nodes.{in-own}
 use Rattle.table.proofs.Trees.{zero-or-suc, tree-leaf, tree-inner}
 use Rattle.certificate_bounds.specs.{marked, best_in}
-use Rattle.mtd_memory.specs.declared.Tried.{Tried}
 use Rattle.mtd_memory.specs.{Memory, memo_of, pass_of, Passed, Explored}
 
 -- the high v after a pass with the test γ and the answer b
@@ -94,17 +93,17 @@ module _ (ν : ℕ → ℕ) (γ : ℕ) where
       cond_cases P (ltb (memo_high_children ν s ks m.kids) γ) _ _ (λ _ e. absurd (true-not-false e refl))
       (λ _. cond_cases P m.not_below _ _ (λ f _. f) (λ _ e. e))
 
-module _ {t : List ℕ} (wf : WellFormed t) {j γ : ℕ} (inside : j < frames t) {m m' : Memory} {r : Tried}
+module _ {t : List ℕ} (wf : WellFormed t) {j γ : ℕ} (inside : j < frames t) {m m' : Memory} {r : Bool}
     (p : Passed t (tree_at t j) γ m m' r) where
   -- a child that was tried
-  pub tried-high : HighBy γ r.answer (get_or m'.highs j 0)
+  pub tried-high : HighBy γ r (get_or m'.highs j 0)
   tried-high =
       let e : get_or m'.highs j 0 ≡ memo_high (valuation t) (tree_at t j) (pass_of t γ m (tree_at t j)).next =
       p.right j (in-own t wf j) ∙ sym (read-high (valuation t) _ (marked m'.not_below) (tree_at t j))
       ∙ ap (memo_high (valuation t) (tree_at t j)) p.memo.got in
       rw (p.answer, e) (pass-high (valuation t) γ (tree_at t j) (memo_of m (tree_at t j)))
 
-  pub tried-explored : r.answer ≡ true → Explored t m' j
+  pub tried-explored : r ≡ true → Explored t m' j
   tried-explored a = record { leaf-is = at_leaf; inner-is = at_inner }
     where
       at_leaf : child_count t j ≡ 0 → marked m'.evaluated j ≡ true

@@ -7,15 +7,12 @@ use Rattle.gametree.specs.{known, Bits}
 use Rattle.certificate_bounds.specs.{marked, progress, evaluate_all}
 use Rattle.certificate_bounds.proofs.Listing.{none-evaluated, one-evaluated, evaluate_all-append}
 use Rattle.table.specs.{first_child, child_count}
-use Rattle.mtd_memory.specs.{Memory, progress_of, MemoryRoom, Evaluated, Explored, NamesTwo, Skips}
+use Rattle.mtd_memory.specs.declared.Memory.{Memory as Lent}
+use Rattle.mtd_memory.specs.{Memory, Long, SameArrays, progress_of, MemoryRoom, Evaluated, Explored, NamesTwo, Skips}
 
 -- what stands there already is stored
 pub set_same : (l : List ℕ) (i v : ℕ) → get_or l i 0 ≡ v → set l i v ≡ l
 set_same l i v e = ap (set l i) (sym e) ∙ set-get_or l i 0
-
--- what was stored is what stands there
-pub set_own : (l : List ℕ) (i v : ℕ) → i < length l → set l i v ≡ set l i (get_or (set l i v) i 0)
-set_own l i v h = ap (set l i) (sym (get_or-set_same l i v 0 h))
 
 -- a small entry names no children
 pub no-leads : {h : List ℕ} {first end x : ℕ} → x < 256 → NamesTwo h first end x
@@ -93,14 +90,7 @@ mutual
   bound-local-kids ν M N x s (T then ts) e =
       ap₂ (better s) (bound-local ν M N x T (λ p i. e p (inl i))) (bound-local-kids ν M N x s ts (λ p i. e p (inr i)))
 
--- the arrays keep their lengths
-pub record Long (m m' : Memory) : Type 0 where
-  pub evaluated : length m'.evaluated ≡ length m.evaluated
-  pub order : length m'.order ≡ length m.order
-  pub highs : length m'.highs ≡ length m.highs
-  pub not_below : length m'.not_below ≡ length m.not_below
-
--- so there is room in them as before
+-- where the arrays keep their lengths, there is room in them as before
 pub room-kept : {n : ℕ} {m m' : Memory} → MemoryRoom n m → Long m m' → MemoryRoom n m'
 room-kept r l =
     record {
@@ -118,6 +108,38 @@ room_at r h =
       order = omega (arith, r.order);
       highs = omega (arith, r.highs);
       not_below = omega (arith, r.not_below);
+    }
+
+-- what keeps its lengths twice keeps them
+long-on : {m m' m'' : Memory} → Long m m' → Long m' m'' → Long m m''
+long-on x y =
+    record {
+      evaluated = y.evaluated ∙ x.evaluated;
+      order = y.order ∙ x.order;
+      highs = y.highs ∙ x.highs;
+      not_below = y.not_below ∙ x.not_below;
+    }
+
+-- what stays in the same buffers twice stays in them
+pub same-arrays : {a b c : Lent} → SameArrays a b → SameArrays b c → SameArrays a c
+same-arrays x y =
+    record {
+      evaluations = y.evaluations ∙ x.evaluations;
+      buffers = (y.buffers.0 ∙ x.buffers.0, y.buffers.1 ∙ x.buffers.1);
+      highs = y.highs ∙ x.highs;
+      not_below = y.not_below ∙ x.not_below;
+      long = long-on x.long y.long;
+    }
+
+-- what is not written stays in the same buffers
+pub same-at-once : (a : Lent) → SameArrays a a
+same-at-once a =
+    record {
+      evaluations = refl;
+      buffers = (refl, refl);
+      highs = refl;
+      not_below = refl;
+      long = record { evaluated = refl; order = refl; highs = refl; not_below = refl };
     }
 
 -- nothing was evaluated

@@ -7,7 +7,6 @@ use Rattle.gametree.specs.{pass_children, read_memo_children, KidsRemembered}
 use Rattle.gametree_theory.proofs.Mtd.MemoArrays.{rest-same, visit-ended, visit-joined}
 use Rattle.table.specs.{valuation}
 use Rattle.certificate_bounds.specs.{marked}
-use Rattle.mtd_memory.specs.declared.Tried.{Tried}
 use Rattle.mtd_memory.specs.{Memory, pass_of, Evaluated, Counted, Passed}
 use Rattle.mtd_memory.proofs.Arrays.{evaluated-none, evaluated-more}
 
@@ -45,13 +44,13 @@ pub remainder-all : (t : List ℕ) (γ : ℕ) (s : Side) (ks : Children) (m : Me
 remainder-all t γ s ks m =
     record { done = []; so-far = evaluated-none _; evaluated = refl; answer = refl; memo = λ m'' v. v }
 
-module _ {t : List ℕ} {γ : ℕ} {s : Side} {ks : Children} {m m' m'' : Memory} {T : Tree} {r : Tried}
+module _ {t : List ℕ} {γ : ℕ} {s : Side} {ks : Children} {m m' m'' : Memory} {T : Tree} {r : Bool}
     (p : Passed t T γ m' m'' r) where
   -- a child whose pass is that of all the children left ends the loop
   remainder-end : {rest : Children} → Remainder t γ s ks rest m m'
       → (pass_children_of t γ s m' rest).not_below ≡ (pass_of t γ m' T).not_below
       → (pass_children_of t γ s m' rest).evaluated ≡ (pass_of t γ m' T).evaluated → Remembers t γ s rest m' m''
-      → PassedChildren t γ s ks m m'' r.answer
+      → PassedChildren t γ s ks m m'' r
   remainder-end o a w v =
       record {
         answer = p.answer ∙ sym a ∙ sym o.answer;
@@ -63,18 +62,18 @@ module _ {t : List ℕ} {γ : ℕ} {s : Side} {ks : Children} {m m' m'' : Memory
       }
 
   -- the last child's answer is the node's
-  pub remainder-last : Remainder t γ s ks (last T) m m' → PassedChildren t γ s ks m m'' r.answer
+  pub remainder-last : Remainder t γ s ks (last T) m m' → PassedChildren t γ s ks m m'' r
   remainder-last o = remainder-end o refl refl (record { got = p.memo.got; elsewhere = p.memo.elsewhere })
 
   module _ {ts : Children} (d : (k : ℕ) → In k T → InChildren k ts → ⊥) (o : Remainder t γ s ks (T then ts) m m') where
     -- so is that of a child that settles its parent
-    pub remainder-settled : settles s r.answer ≡ true → PassedChildren t γ s ks m m'' r.answer
+    pub remainder-settled : settles s r ≡ true → PassedChildren t γ s ks m m'' r
     remainder-settled h =
         let e = ap (settles s) (sym p.answer) ∙ h in
         remainder-end o (rw e) (rw e) (visit-ended (valuation t) γ s T ts d _ _ _ _ p.memo e)
 
     -- after another one its younger siblings are owed
-    pub remainder-rest : settles s r.answer ≡ false → Remainder t γ s ks ts m m''
+    pub remainder-rest : settles s r ≡ false → Remainder t γ s ks ts m m''
     remainder-rest h =
         let e = ap (settles s) (sym p.answer) ∙ h in
         let w = (pass_of t γ m' T).evaluated in

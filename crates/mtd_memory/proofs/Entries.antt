@@ -18,7 +18,7 @@ max-not-min e f = clash (cc)
 
 module _ {highs : List ℕ} {γ first end x : ℕ} (some : first < end) (l : NamesTwo highs first end x) where
   -- all children of a Max node are tried
-  pub all-to-try : ToTry Max highs γ first end x (record { from = first; to = end })
+  pub all-to-try : ToTry Max highs γ first end x (record { start = first; end = end })
   all-to-try =
       record {
         start = le_refl first;
@@ -31,7 +31,7 @@ module _ {highs : List ℕ} {γ first end x : ℕ} (some : first < end) (l : Nam
 
   -- the leading one alone is
   pub lead-to-try : 256 ≤ x → get_or highs (first + x % 256) 0 < γ
-      → ToTry Max highs γ first end x (record { from = first + x / 256 - 1; to = first + x / 256 })
+      → ToTry Max highs γ first end x (record { start = first + x / 256 - 1; end = first + x / 256 })
   lead-to-try n h =
       record {
         start = omega arith;
@@ -44,7 +44,7 @@ module _ {highs : List ℕ} {γ first end x : ℕ} (some : first < end) (l : Nam
 
 -- a Min node skips the leading ones
 pub skips-to-try : {highs : List ℕ} {γ first end x from : ℕ} → first + (x - 1) < end → from ≡ first + (x - 1)
-    → ToTry Min highs γ first end x (record { from = from; to = end })
+    → ToTry Min highs γ first end x (record { start = from; end = end })
 skips-to-try {end = end} l e =
     record {
       start = omega (arith, e);
@@ -139,11 +139,7 @@ pub keeps-min : {answer : Bool} {highs : List ℕ} {first end child v x : ℕ}
     → x ≡ kept_entry answer (child - (first + 1)) → KeepsBest Min answer highs first end child v x
 keeps-min h f s = record { high = h; flag = f; skips = λ _. s; leads = λ e. absurd (max-not-min e refl) }
 
--- a node keeps the same by other names
-pub keeps_same : {s : Side} {answer : Bool} {highs : List ℕ} {first end child v v' x x' : ℕ} → v' ≡ v → x' ≡ x
-    → KeepsBest s answer highs first end child v x → KeepsBest s answer highs first end child v' x'
-keeps_same e f k = rw (e, f) k
-
+-- an entry names the same children by another name
 pub leads-entry : {highs : List ℕ} {first end x y : ℕ} → x ≡ y → NamesTwo highs first end y → NamesTwo highs first end x
 leads-entry e l = rw e l
 

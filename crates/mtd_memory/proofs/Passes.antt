@@ -1,8 +1,8 @@
 -- What a pass does at a node, over its tree and the arrays: a leaf is tried; a node whose high is below the test, or
 -- that was found not below, is not entered; any other is entered.
-use Rattle.prelude.proofs.{ℕ, suc, ◌+◌, ◌≤◌, ◌<◌, arith, ◌≡◌, refl, sym, ap, ap₂, ◌∙◌, subst, inl, inr, true, false}
-use Rattle.prelude.proofs.{cond, List, [], ◌∷◌, leb, eqb, get_or, set, get_or-set_same, get_or-set_other, lt-ltb}
-use Rattle.prelude.proofs.{le-ltb}
+use Rattle.prelude.proofs.{ℕ, suc, ◌+◌, ◌≤◌, ◌<◌, arith, ◌≡◌, refl, sym, ap, ap₂, ◌∙◌, subst, inl, inr, Bool}
+use Rattle.prelude.proofs.{true, false, cond, List, [], ◌∷◌, leb, eqb, get_or, set, get_or-set_same, get_or-set_other}
+use Rattle.prelude.proofs.{lt-ltb, le-ltb}
 use Rattle.gametree.specs.declared.Side.{Side}
 use Rattle.gametree.specs.{Tree, leaf, inner, Children, InChildren, high, Memo, memo_high, Pass, stay, entered}
 use Rattle.lists.proofs.Choice.{cond_cases}
@@ -10,15 +10,14 @@ use Rattle.gametree_theory.proofs.Mtd.MemoArrays.{read_memo_children-same, read-
 use Rattle.table.specs.{tree_at, valuation, frames, first_child, child_count}
 use Rattle.certificate_bounds.specs.{marked, ones, progress, evaluate_all}
 use Rattle.certificate_bounds.proofs.Marking.{marked_other}
-use Rattle.mtd_memory.specs.declared.Tried.{Tried}
 use Rattle.mtd_memory.specs.{Memory, memory, progress_of, memo_of, pass_of, MemoryRoom, HighsRight, Counted}
 use Rattle.mtd_memory.specs.{Evaluated, Passed, Skips, SkipsRight}
 use Rattle.mtd_memory.proofs.Arrays.{marked-same, evaluated-none, skips-same}
 use Rattle.mtd_memory.proofs.Children.{pass_children_of, PassedChildren}
 
 -- a leaf that was tried: evaluated now, if it was not before, and compared with the test
-module _ (t : List ℕ) (i γ : ℕ) (m : Memory) (n : ℕ) (o : List ℕ) (r : Tried) (is_IsLeaf : tree_at t i ≡ leaf i)
-    (room : MemoryRoom (suc i) m) (a : r.answer ≡ leb γ (valuation t i))
+module _ (t : List ℕ) (i γ : ℕ) (m : Memory) (n : ℕ) (o : List ℕ) (r : Bool) (is_IsLeaf : tree_at t i ≡ leaf i)
+    (room : MemoryRoom (suc i) m) (a : r ≡ leb γ (valuation t i))
     (w : progress n (set m.evaluated i 1) o
     ≡ evaluate_all (progress_of m) (cond (marked m.evaluated i) [] (i ∷ [])))
     (c : n ≡ ones (set m.evaluated i 1) (frames t)) (none : child_count t i ≡ 0) (own-skips : Skips t m i) where
@@ -32,7 +31,7 @@ module _ (t : List ℕ) (i γ : ℕ) (m : Memory) (n : ℕ) (o : List ℕ) (r : 
 
   -- what the pass says, by whether it was evaluated before
   record Done (q : Pass (leaf i)) : Type 0 where
-    answer : r.answer ≡ q.not_below
+    answer : r ≡ q.not_below
     evaluated : Evaluated m tried q.evaluated
     next : marked (set m.evaluated i 1) i ≡ q.next.evaluated
 
@@ -70,8 +69,8 @@ module _ (t : List ℕ) (i γ : ℕ) (m : Memory) (n : ℕ) (o : List ℕ) (r : 
       }
 
 -- a node that is not entered
-stay-passed : (t : List ℕ) (T : Tree) (γ : ℕ) (m : Memory) (r : Tried) → Counted t m
-    → pass_of t γ m T ≡ stay T (memo_of m T) r.answer → HighsRight t m T → SkipsRight t m T → Passed t T γ m m r
+stay-passed : (t : List ℕ) (T : Tree) (γ : ℕ) (m : Memory) (r : Bool) → Counted t m
+    → pass_of t γ m T ≡ stay T (memo_of m T) r → HighsRight t m T → SkipsRight t m T → Passed t T γ m m r
 stay-passed t T γ m r n e h s =
     record {
       answer = ap (λ q. q.not_below) (sym e);
@@ -90,22 +89,22 @@ module _ (t : List ℕ) (i γ : ℕ) (m : Memory) (s : Side) (ks : Children) (is
   stored : get_or m.highs i 0 ≡ memo_high (valuation t) (inner i s ks) (memo_of m (inner i s ks))
   stored = (rw is-inner at (right i (inl refl))) ∙ sym (read-high (valuation t) _ _ (inner i s ks))
 
-  pub below-passed : (r : Tried) → Counted t m → r.answer ≡ false → get_or m.highs i 0 < γ
+  pub below-passed : (r : Bool) → Counted t m → r ≡ false → get_or m.highs i 0 < γ
       → Passed t (inner i s ks) γ m m r
   below-passed r n a h =
       stay-passed t (inner i s ks) γ m r n (rw (a, lt-ltb _ _ (rw stored at h))) right skips
 
-  pub not-below-passed : (r : Tried) → Counted t m → r.answer ≡ true → γ ≤ get_or m.highs i 0
+  pub not-below-passed : (r : Bool) → Counted t m → r ≡ true → γ ≤ get_or m.highs i 0
       → marked m.not_below i ≡ true → Passed t (inner i s ks) γ m m r
   not-below-passed r n a h f =
       stay-passed t (inner i s ks) γ m r n (rw (a, le-ltb _ _ (rw stored at h), f)) right skips
 
-  module _ (m' : Memory) (r : Tried) (v : ℕ) (h : γ ≤ get_or m.highs i 0) (f : marked m.not_below i ≡ false)
-      (room : MemoryRoom (suc i) m') (apart : InChildren i ks → ⊥) (q : PassedChildren t γ s ks m m' r.answer)
+  module _ (m' : Memory) (r : Bool) (v : ℕ) (h : γ ≤ get_or m.highs i 0) (f : marked m.not_below i ≡ false)
+      (room : MemoryRoom (suc i) m') (apart : InChildren i ks → ⊥) (q : PassedChildren t γ s ks m m' r)
       (kids-right : (k : ℕ) → InChildren k ks
       → get_or m'.highs k 0 ≡ high (valuation t) (marked m'.evaluated) (tree_at t k))
       (others : (k : ℕ) → (InChildren k ks → ⊥) → get_or m'.highs k 0 ≡ get_or m.highs k 0)
-      (best : v ≡ high (valuation t) (marked m'.evaluated) (inner i s ks)) (x : ℕ) (flag : eqb x 1 ≡ r.answer)
+      (best : v ≡ high (valuation t) (marked m'.evaluated) (inner i s ks)) (x : ℕ) (flag : eqb x 1 ≡ r)
       (kids-skips : (k : ℕ) → InChildren k ks → Skips t m' k)
       (later : (k j : ℕ) → InChildren k ks → first_child t k ≤ j → j < first_child t k + child_count t k
       → j ≡ i → ⊥)

@@ -16,11 +16,10 @@ use Rattle.table.proofs.Nodes.{in-own, tree-range}
 use Rattle.table.proofs.Proper.{every-leaf, leaf-scored}
 use Rattle.table.proofs.Trees.{zero-or-suc, in-kids, tree-leaf}
 use Rattle.certificate_bounds.specs.{marked}
-use Rattle.mtd_memory.specs.declared.Tried.{Tried}
-use Rattle.mtd_memory.specs.declared.Tries.{Tries}
-use Rattle.mtd_memory.specs.{Memory, memory, VisitReady, Passed, PassedOver, skip_at, Explored, NamesTwo, Skips}
+use Rattle.std.specs.declared.ops.Range.{Range}
+use Rattle.mtd_memory.specs.{Memory, Long, VisitReady, Passed, PassedOver, skip_at, Explored, NamesTwo, Skips}
 use Rattle.mtd_memory.specs.{ToTry, Alone}
-use Rattle.mtd_memory.proofs.Arrays.{set_same, Long, leaf-again, leads-others}
+use Rattle.mtd_memory.proofs.Arrays.{set_same, leaf-again, leads-others}
 use Rattle.mtd_memory.proofs.Turns.{PassLoop, Left, Family, turn-first, turn-ready, turn-apart, child}
 use Rattle.mtd_memory.proofs.Turns.{turn-next, turn_last}
 use Rattle.mtd_memory.proofs.Entries.{max-not-min}
@@ -43,18 +42,14 @@ module _ {t : List ℕ} {m : Memory} {i : ℕ} {p : Position} (ready : VisitRead
       ready.inside) in
       omega (arith, ready.right i (in-own t wf i))
 
-  -- what the pass gives at a node that is below at once
-  abbrev pub at_once : Tried
-  at_once = record { answer = false; leaves = m.leaves }
-
   module _ {γ : ℕ} (most : γ ≤ greatest) (h : get_or m.highs i 0 < γ) where
-    leaf-below : child_count t i ≡ 0 → (b : Bool) → marked m.evaluated i ≡ b → Passed t (tree_at t i) γ m m at_once
+    leaf-below : child_count t i ≡ 0 → (b : Bool) → marked m.evaluated i ≡ b → Passed t (tree_at t i) γ m m false
     leaf-below none true e =
         let wf = ready.formed in
         let v = leaf-known t wf i ready.inside none m ready.right e in
-        visit-leaf t wf i ready.inside none m γ m.evaluated m.order m.highs at_once ready.room
+        visit-leaf t wf i ready.inside none m γ m.leaves m.evaluated m.order m.highs m.not_below false ready.room
         (sym (lt-leb γ (valuation t i) (omega arith))) (leaf-again _ _ _ _ e) (sym (set_same _ _ 1 (eqb-true _ _ e)))
-        (sym (set_same _ _ _ v)) ready.counted (ready.skips i (in-own t wf i))
+        (sym (set_same _ _ _ v)) refl ready.counted (ready.skips i (in-own t wf i))
     leaf-below none false e =
         let wf = ready.formed in
         let v : get_or m.highs i 0 ≡ greatest =
@@ -62,26 +57,22 @@ module _ {t : List ℕ} {m : Memory} {i : ℕ} {p : Position} (ready : VisitRead
         absurd (omega arith)
 
     -- a node whose high is below the test is below
-    pub below-at-once : Passed t (tree_at t i) γ m m at_once
+    pub below-at-once : Passed t (tree_at t i) γ m m false
     below-at-once =
         zero-or-suc (child_count t i) (λ none. leaf-below none (marked m.evaluated i) refl) (λ n some.
         visit-below (record { formed = ready.formed; inside = ready.inside; from = refl; to = refl }) ready
         (omega arith) refl h)
 
-  -- what it gives at one that is not below at once
-  abbrev not-at-once : Tried
-  not-at-once = record { answer = true; leaves = m.leaves }
-
   -- an explored node whose high is not below the test
-  above-at-once : {γ : ℕ} → γ ≤ get_or m.highs i 0 → Explored t m i → Passed t (tree_at t i) γ m m not-at-once
+  above-at-once : {γ : ℕ} → γ ≤ get_or m.highs i 0 → Explored t m i → Passed t (tree_at t i) γ m m true
   above-at-once {γ} h s =
       zero-or-suc (child_count t i) (λ none.
       let wf = ready.formed in
       let e = s.leaf-is none in
       let v = leaf-known t wf i ready.inside none m ready.right e in
-      visit-leaf t wf i ready.inside none m γ m.evaluated m.order m.highs not-at-once ready.room
+      visit-leaf t wf i ready.inside none m γ m.leaves m.evaluated m.order m.highs m.not_below true ready.room
       (sym (le-leb γ (valuation t i) (omega arith))) (leaf-again _ _ _ _ e) (sym (set_same _ _ 1 (eqb-true _ _ e)))
-      (sym (set_same _ _ _ v)) ready.counted (ready.skips i (in-own t wf i)))
+      (sym (set_same _ _ _ v)) refl ready.counted (ready.skips i (in-own t wf i)))
       (λ n some.
       visit-not-below (record { formed = ready.formed; inside = ready.inside; from = refl; to = refl }) ready
       (omega arith) refl h (s.inner-is (omega arith)))
@@ -192,14 +183,14 @@ module _ {t : List ℕ} {i first end : ℕ} (family : Family t i first end) {m :
         (o.below (now + n) (omega arith) (omega arith)) z))
 
 -- the highs of the children that are not to be tried are as they were
-abbrev pub Untried : (first end : ℕ) → Tries → (m m' : Memory) → Type 0
+abbrev pub Untried : (first end : ℕ) → Range ℕ → (m m' : Memory) → Type 0
 Untried first end r m m' =
-    (k : ℕ) → first ≤ k → k < end → (r.from ≤ k → k < r.to → ⊥) → get_or m'.highs k 0 ≡ get_or m.highs k 0
+    (k : ℕ) → first ≤ k → k < end → (r.start ≤ k → k < r.end → ⊥) → get_or m'.highs k 0 ≡ get_or m.highs k 0
 
 -- the loop is among the children to try
-pub record Trying (first end : ℕ) (r : Tries) (m m' : Memory) (now : ℕ) : Type 0 where
-  pub from : r.from ≤ now
-  pub to : now < r.to
+pub record Trying (first end : ℕ) (r : Range ℕ) (m m' : Memory) (now : ℕ) : Type 0 where
+  pub from : r.start ≤ now
+  pub to : now < r.end
   pub outside : Untried first end r m m'
 
 or-true : (a : Bool) → a || true ≡ true
@@ -214,7 +205,7 @@ settles-max : {s : Side} {b : Bool} → s ≡ Max → b ≡ false → settles s 
 settles-max e f = rw (e, f) refl
 
 module _ {t : List ℕ} {i first end : ℕ} (family : Family t i first end) {m : Memory} {p : Position}
-    (ready : VisitReady t m i p) {γ : ℕ} (some : first < end) (high : γ ≤ get_or m.highs i 0) {r : Tries}
+    (ready : VisitReady t m i p) {γ : ℕ} (some : first < end) (high : γ ≤ get_or m.highs i 0) {r : Range ℕ}
     (o : ToTry p.side m.highs γ first end (get_or m.not_below i 0) r) where
   most : γ ≤ greatest
   most = omega (arith, high, high-capped ready)
@@ -225,13 +216,13 @@ module _ {t : List ℕ} {i first end : ℕ} (family : Family t i first end) {m :
   left_at e l = record { passed = l.passed; highs = l.highs; down = λ q _. absurd (max-not-min e q) }
 
   -- the loop starts at the first child to try
-  pub try-first : PassLoop t p.side γ first end m m r.from × Trying first end r m m r.from
+  pub try-first : PassLoop t p.side γ first end m m r.start × Trying first end r m m r.start
   try-first = (
     by_side p.side refl,
     record { from = omega arith; to = o.some; outside = λ k a b c. refl },
   )
     where
-      by_side : (s : Side) → p.side ≡ s → PassLoop t p.side γ first end m m r.from
+      by_side : (s : Side) → p.side ≡ s → PassLoop t p.side γ first end m m r.start
       by_side Max e =
           let w = o.within in
           let x = o.some in
@@ -249,16 +240,16 @@ module _ {t : List ℕ} {i first end : ℕ} (family : Family t i first end) {m :
   module _ {m' : Memory} {now : ℕ} (u : PassLoop t p.side γ first end m m' now) (w : Trying first end r m m' now)
     where
       -- the children behind those to try are below
-      behind-below : p.side ≡ Max → (k : ℕ) → r.to ≤ k → k < end → get_or m'.highs k 0 < γ
+      behind-below : p.side ≡ Max → (k : ℕ) → r.end ≤ k → k < end → get_or m'.highs k 0 < γ
       behind-below e k a b =
           let from = u.from in
           let to = w.to in
           let f : first ≤ k = omega arith in
           omega (arith, o.outside e k f b (λ c d. omega arith), w.outside k f b (λ c d. omega arith))
 
-      module _ {q : ℕ} (z : PassedOver p.side m'.highs γ now r.to q) where
+      module _ {q : ℕ} (z : PassedOver p.side m'.highs γ now r.end q) where
         -- the next child to try
-        pub try-next : q < r.to → PassLoop t p.side γ first end m m' q × Trying first end r m m' q
+        pub try-next : q < r.end → PassLoop t p.side γ first end m m' q × Trying first end r m m' q
         try-next l = (
           passed_over family ready most u
               (record { start = z.start; to = omega (arith, o.within); below = z.below; side = z.side })
@@ -267,7 +258,7 @@ module _ {t : List ℕ} {i first end : ℕ} (family : Family t i first end) {m :
         )
 
         -- there is none
-        pub try-over : q ≡ r.to → Left t p.side γ first end m m' q false
+        pub try-over : q ≡ r.end → {c : ℕ} → Left t p.side γ first end m m' c false
         try-over e =
             let max = z.side (omega (arith, w.to)) in
             left_at max
@@ -283,7 +274,7 @@ module _ {t : List ℕ} {i first end : ℕ} (family : Family t i first end) {m :
             })
             refl)
 
-      module _ {m'' : Memory} {x : Tried} (v : Passed t (tree_at t now) γ m' m'' x) (long : Long m m'') where
+      module _ {m'' : Memory} {x : Bool} (v : Passed t (tree_at t now) γ m' m'' x) (long : Long m m'') where
         pub outside-still : Untried first end r m m''
         outside-still k a b c =
             let from = w.from in
@@ -292,18 +283,18 @@ module _ {t : List ℕ} {i first end : ℕ} (family : Family t i first end) {m :
             ∙ w.outside k a b c
 
         -- after a child that is not the last one to try
-        pub try-again : eqb (now + 1) r.to || settles p.side x.answer ≡ false
+        pub try-again : eqb (now + 1) r.end || settles p.side x ≡ false
             → PassLoop t p.side γ first end m m'' (now + 1) × Trying first end r m m'' (now + 1)
         try-again e =
-            let b = or-false-both (eqb (now + 1) r.to) (settles p.side x.answer) e in
-            let l : now + 1 < r.to = omega (arith, eqb-false (now + 1) r.to b.0, w.to) in (
+            let b = or-false-both (eqb (now + 1) r.end) (settles p.side x) e in
+            let l : now + 1 < r.end = omega (arith, eqb-false (now + 1) r.end b.0, w.to) in (
               turn-next family {m'' = m''} u v long
                   (rw (ne_eqb (now + 1) end (λ f. omega (arith, f, o.within)), b.1) refl),
               record { from = omega (arith, w.from); to = l; outside = outside-still },
             )
 
         -- under Max the children behind those to try are below
-        rest-passed : p.side ≡ Max → x.answer ≡ false → now + 1 ≡ r.to → (r.to ≡ end → ⊥)
+        rest-passed : p.side ≡ Max → x ≡ false → now + 1 ≡ r.end → (r.end ≡ end → ⊥)
             → Left t p.side γ first end m m'' (now + 1) false
         rest-passed max f g other =
             let a = settles-max max f in
@@ -327,25 +318,25 @@ module _ {t : List ℕ} {i first end : ℕ} (family : Family t i first end) {m :
             refl)
 
         -- after the last one
-        pub try-last : eqb (now + 1) r.to || settles p.side x.answer ≡ true
-            → Left t p.side γ first end m m'' (now + 1) x.answer
+        pub try-last : eqb (now + 1) r.end || settles p.side x ≡ true
+            → Left t p.side γ first end m m'' (now + 1) x
         try-last e =
-            elim (ℕ_discrete r.to end) [
+            elim (ℕ_discrete r.end end) [
               | yes f ↦ turn_last family {m'' = m''} u v
-                  (ap (λ k. eqb (now + 1) k || settles p.side x.answer) (sym f) ∙ e)
-              | no f ↦ by_answer (settles p.side x.answer) refl (by_side p.side refl f) f
+                  (ap (λ k. eqb (now + 1) k || settles p.side x) (sym f) ∙ e)
+              | no f ↦ by_answer (settles p.side x) refl (by_side p.side refl f) f
             ]
           where
-            by_side : (s : Side) → p.side ≡ s → (r.to ≡ end → ⊥) → p.side ≡ Max
+            by_side : (s : Side) → p.side ≡ s → (r.end ≡ end → ⊥) → p.side ≡ Max
             by_side Max a f = a
             by_side Min a f = absurd (f (o.skips a).1)
 
-            by_answer : (b : Bool) → settles p.side x.answer ≡ b → p.side ≡ Max → (r.to ≡ end → ⊥)
-                → Left t p.side γ first end m m'' (now + 1) x.answer
+            by_answer : (b : Bool) → settles p.side x ≡ b → p.side ≡ Max → (r.end ≡ end → ⊥)
+                → Left t p.side γ first end m m'' (now + 1) x
             by_answer true a max other = turn_last family {m'' = m''} u v (rw a (or-true (eqb (now + 1) end)))
             by_answer false a max other =
-                let f = ap (λ s. settles s x.answer) (sym max) ∙ a in
-                let g = eqb-true (now + 1) r.to (or-first (eqb (now + 1) r.to) _ e a) in
+                let f = ap (λ s. settles s x) (sym max) ∙ a in
+                let g = eqb-true (now + 1) r.end (or-first (eqb (now + 1) r.end) _ e a) in
                 rw f (rest-passed max f g other)
 
   -- where the leading child of a Max node was tried alone, the node's entry names it still
@@ -369,12 +360,3 @@ module _ {t : List ℕ} {i first end : ℕ} (family : Family t i first end) {m :
             leads-others (λ j a b c. untried j a b (λ f g. c (omega (arith, o.alone max n e, e))))
             (leads-own family ready max);
       })
-
--- the children's answer in the same arrays
-pub left-same : {t : List ℕ} {s : Side} {γ first end : ℕ} {x : Tries} {m : Memory} {e e' o o' h h' f f' : List ℕ}
-    {n n' c c' : ℕ} {b b' : Bool} → e ≡ e' → o ≡ o' → h ≡ h' → f ≡ f' → n ≡ n' → c ≡ c' → b ≡ b'
-    → Left t s γ first end m (memory n' e' o' h' f') c' b' × Long m (memory n' e' o' h' f')
-    × Untried first end x m (memory n' e' o' h' f')
-    → Left t s γ first end m (memory n e o h f) c b × Long m (memory n e o h f)
-    × Untried first end x m (memory n e o h f)
-left-same p q r u v y w x = rw (p, q, r, u, v, y, w) x

@@ -15,9 +15,8 @@ use Rattle.table.proofs.Trees.{in-kids, kids-in, tree-inner}
 use Rattle.table.proofs.Nodes.{in-own, in-parent, in-trans, tree-range, children-apart}
 use Rattle.certificate_bounds.specs.{marked, best_in}
 use Rattle.certificate_bounds.proofs.Bounds.{minimax-best}
-use Rattle.mtd_memory.specs.declared.Tried.{Tried}
-use Rattle.mtd_memory.specs.{Memory, HighsRight, Counted, VisitReady, Passed, Explored, SkipsRight}
-use Rattle.mtd_memory.proofs.Arrays.{bound-local, Long, room-kept, explored-same, skips-same}
+use Rattle.mtd_memory.specs.{Memory, Long, HighsRight, Counted, VisitReady, Passed, Explored, SkipsRight}
+use Rattle.mtd_memory.proofs.Arrays.{bound-local, room-kept, explored-same, skips-same}
 use Rattle.mtd_memory.proofs.Answers.{tried-high, tried-explored, best-least, best-is}
 use Rattle.mtd_memory.proofs.Children.{PassedChildren, Remainder, remainder-all, remainder-last}
 use Rattle.mtd_memory.proofs.Children.{remainder-settled}
@@ -164,7 +163,7 @@ module _ {t : List ℕ} {i first end : ℕ} (family : Family t i first end) wher
       → first ≤ j → j < end → (j ≡ now → ⊥) → In j (tree_at t now) → ⊥
   turn-apart u j a b e x = e (children-apart t wf inside (child j a b) (turn-child u) j (in-own t wf j) x)
 
-  module _ {s : Side} {γ : ℕ} {m m' m'' : Memory} {now : ℕ} {r : Tried} (u : PassLoop t s γ first end m m' now)
+  module _ {s : Side} {γ : ℕ} {m m' m'' : Memory} {now : ℕ} {r : Bool} (u : PassLoop t s γ first end m m' now)
       (p : Passed t (tree_at t now) γ m' m'' r) where
     -- the highs below the other children are as they were
     still-right : (k : ℕ) → first ≤ k → k < end → HighsRight t m'' (tree_at t k)
@@ -248,10 +247,10 @@ module _ {t : List ℕ} {i first end : ℕ} (family : Family t i first end) wher
           u.remainder
 
     -- after a child that is not the last one tried
-    pub turn-next : Long m m'' → eqb (now + 1) end || settles s r.answer ≡ false
+    pub turn-next : Long m m'' → eqb (now + 1) end || settles s r ≡ false
         → PassLoop t s γ first end m m'' (now + 1)
     turn-next long e =
-        let b = or-false-both (eqb (now + 1) end) (settles s r.answer) e in
+        let b = or-false-both (eqb (now + 1) end) (settles s r) e in
         let o = u.to in
         let more : now + 1 < end = omega (arith, eqb-false (now + 1) end b.0) in
         record {
@@ -264,16 +263,16 @@ module _ {t : List ℕ} {i first end : ℕ} (family : Family t i first end) wher
           ahead = λ z j c d. ahead-still z j (omega arith) d;
           elders = λ z j c d.
               elim (ℕ_discrete j now) [
-                | yes g ↦ (let a : r.answer ≡ true =
-                    not-false r.answer (ap (λ x. settles x r.answer) (sym z) ∙ b.1) in
+                | yes g ↦ (let a : r ≡ true =
+                    not-false r (ap (λ x. settles x r) (sym z) ∙ b.1) in
                     rw g (tried-explored wf inside-now p a, (tried-high wf inside-now p).above a))
                 | no g ↦ elders-still z j c (omega arith)
               ];
         }
 
     -- after the last one tried
-    pub turn_last : eqb (now + 1) end || settles s r.answer ≡ true
-        → Left t s γ first end m m'' (now + 1) r.answer
+    pub turn_last : eqb (now + 1) end || settles s r ≡ true
+        → Left t s γ first end m m'' (now + 1) r
     turn_last e =
         record {
           passed =

@@ -1,6 +1,7 @@
 -- Visits of the table's nodes, in the terms of the code: a look at a node, a leaf, and each way out of an inner node.
 use Rattle.prelude.proofs.{ℕ, zero, suc, ◌+◌, ◌-◌, ◌≤◌, ◌<◌, arith, ◌≡◌, refl, sym, ap, ◌∙◌, subst, Bool, true, false}
 use Rattle.prelude.proofs.{cond, List, [], ◌∷◌, leb, get_or, set, get_or-set_same, get_or-set_other}
+use Rattle.std.specs.Prelude.{Option, Some, None}
 use Rattle.gametree.specs.declared.Position.{Position}
 use Rattle.gametree.specs.declared.Side.{Side}
 use Rattle.gametree.specs.declared.Side.TheVariants.{Min}
@@ -13,9 +14,6 @@ use Rattle.table.proofs.Nodes.{in-own, tree-distinct, tree-range}
 use Rattle.certificate_bounds.specs.{marked, ones, progress, evaluate_all}
 use Rattle.certificate_bounds.proofs.Bounds.{best-same, minimax-best}
 use Rattle.certificate_bounds.proofs.Marking.{marked_other}
-use Rattle.mtd_memory.specs.declared.Seen.{Seen}
-use Rattle.mtd_memory.specs.declared.Seen.TheVariants.{Answered, Open}
-use Rattle.mtd_memory.specs.declared.Tried.{Tried}
 use Rattle.mtd_memory.specs.{Memory, memory, progress_of, MemoryRoom, HighsRight, VisitReady, Enterable, Passed}
 use Rattle.mtd_memory.specs.{Looked, skip_entry, kept_entry, Skips, SkipsRight, KeepsBest}
 use Rattle.mtd_memory.proofs.Arrays.{room_at, explored-same, leads-others}
@@ -23,41 +21,29 @@ use Rattle.mtd_memory.proofs.Passes.{leaf-passed, below-passed, not-below-passed
 use Rattle.mtd_memory.proofs.Turns.{children_up_to, Down, Left, Family, child, tree-kids}
 
 -- a visit of the same tree
-passed-at : {t : List ℕ} {T U : Tree} {γ : ℕ} {m m' : Memory} {r : Tried} → U ≡ T → Passed t T γ m m' r
+passed-at : {t : List ℕ} {T U : Tree} {γ : ℕ} {m m' : Memory} {r : Bool} → U ≡ T → Passed t T γ m m' r
     → Passed t U γ m m' r
 passed-at {t} {T} {U} {γ} {m} {m'} {r} e p = subst (λ T. Passed t T γ m m' r) (sym e) p
 
 -- what a look at node i gives, by what it saw
-module _ (t : List ℕ) (i γ : ℕ) (m : Memory) (m' : ℕ → Memory) (s : Seen) where
-  -- a node that was not entered
-  pub looked-answer : (r : Tried) → s ≡ Answered r → Passed t (tree_at t i) γ m (m' r.leaves) r → Looked t i γ m m' s
-  looked-answer r e p = subst (Looked t i γ m m') (sym e) p
+module _ (t : List ℕ) (i γ : ℕ) (m m' : Memory) (s : Option Bool) (l : Looked t i γ m m' s) where
+  -- the node was answered
+  pub looked-passed : (r : Bool) → s ≡ Some r → Passed t (tree_at t i) γ m m' r
+  looked-passed r e = subst (Looked t i γ m m') e l
 
-  module _ (l : Looked t i γ m m' s) where
-    -- the node was answered
-    pub looked-passed : (r : Tried) → s ≡ Answered r → Passed t (tree_at t i) γ m (m' r.leaves) r
-    looked-passed r e = subst (Looked t i γ m m') e l
+  -- the node is open, and ready to be entered
+  module _ (e : s ≡ None) where
+    open-known : (m' ≡ m) × Enterable t m i γ
+    open-known = subst (Looked t i γ m m') e l
 
-    -- the node is open, and ready to be entered
-    module _ (e : s ≡ Open) where
-      open-known : (m' m.leaves ≡ m) × Enterable t m i γ
-      open-known = subst (Looked t i γ m m') e l
+    pub open-ready : {p : Position} → VisitReady t m i p → VisitReady t m' i p × Enterable t m' i γ
+    open-ready {p} ready =
+        let k = open-known in
+        (subst (λ x. VisitReady t x i p) (sym k.0) ready, subst (λ x. Enterable t x i γ) (sym k.0) k.1)
 
-      pub open-ready : {p : Position} → VisitReady t m i p
-          → VisitReady t (m' m.leaves) i p × Enterable t (m' m.leaves) i γ
-      open-ready {p} ready =
-          let k = open-known in
-          (subst (λ x. VisitReady t x i p) (sym k.0) ready, subst (λ x. Enterable t x i γ) (sym k.0) k.1)
-
-      pub open-passed : {m'' : Memory} {r : Tried} → Passed t (tree_at t i) γ (m' m.leaves) m'' r
-          → Passed t (tree_at t i) γ m m'' r
-      open-passed {m''} {r} p = subst (λ x. Passed t (tree_at t i) γ x m'' r) open-known.0 p
-
--- a visit that left the same arrays and gave the same
-pub passed-same : {t : List ℕ} {T : Tree} {γ : ℕ} {m : Memory} {e e' o o' h h' f f' : List ℕ} {r r' : Tried}
-    → e ≡ e' → o ≡ o' → h ≡ h' → f ≡ f' → r ≡ r' → Passed t T γ m (memory r'.leaves e' o' h' f') r'
-    → Passed t T γ m (memory r.leaves e o h f) r
-passed-same p z q u v x = rw (p, z, q, u, v) x
+    pub open-passed : {m'' : Memory} {r : Bool} → Passed t (tree_at t i) γ m' m'' r
+        → Passed t (tree_at t i) γ m m'' r
+    open-passed {m''} {r} p = subst (λ x. Passed t (tree_at t i) γ x m'' r) open-known.0 p
 
 -- a node's depth is small
 pub ready-shallow : {t : List ℕ} {m : Memory} {p : Position} {i : ℕ} → VisitReady t m i p → p.depth ≤ max_nodes
@@ -82,15 +68,14 @@ module _ (t : List ℕ) (wf : WellFormed t) (i : ℕ) (inside : i < frames t) (n
     leaf-known right e = right i (in-own t wf i) ∙ rw (tree-leaf t wf i inside none, e)
 
     -- it is tried: evaluated, if it was not before, and compared with the test
-    pub visit-leaf : (γ : ℕ) (e o h : List ℕ) (r : Tried) → MemoryRoom (frames t) m
-        → r.answer ≡ leb γ (valuation t i)
-        → progress r.leaves e o ≡ evaluate_all (progress_of m) (cond (marked m.evaluated i) [] (i ∷ []))
-        → e ≡ set m.evaluated i 1 → h ≡ set m.highs i (valuation t i)
-        → r.leaves ≡ ones e (frames t) → Skips t m i
-        → Passed t (tree_at t i) γ m (memory r.leaves e o h m.not_below) r
-    visit-leaf γ e o h r room a w p q c s =
+    pub visit-leaf : (γ n : ℕ) (e o h f : List ℕ) (r : Bool) → MemoryRoom (frames t) m → r ≡ leb γ (valuation t i)
+        → progress n e o ≡ evaluate_all (progress_of m) (cond (marked m.evaluated i) [] (i ∷ []))
+        → e ≡ set m.evaluated i 1 → h ≡ set m.highs i (valuation t i) → f ≡ m.not_below
+        → n ≡ ones e (frames t) → Skips t m i
+        → Passed t (tree_at t i) γ m (memory n e o h f) r
+    visit-leaf γ n e o h f r room a w p q k c s =
         let is_IsLeaf = tree-leaf t wf i inside none in
-        rw (p, q) (passed-at is_IsLeaf (leaf-passed t i γ m r.leaves o r is_IsLeaf (room_at room inside) a
+        rw (p, q, k) (passed-at is_IsLeaf (leaf-passed t i γ m n o r is_IsLeaf (room_at room inside) a
         (rw p at w) (rw p at c) none s))
 
 -- an inner node
@@ -109,13 +94,13 @@ module _ {t : List ℕ} {i first end : ℕ} (family : Family t i first end) {m :
   skips-inner = subst (SkipsRight t m) node-inner ready.skips
 
   -- a node whose high is below the test is below
-  pub visit-below : {γ : ℕ} {r : Tried} → r.answer ≡ false → get_or m.highs i 0 < γ
+  pub visit-below : {γ : ℕ} {r : Bool} → r ≡ false → get_or m.highs i 0 < γ
       → Passed t (tree_at t i) γ m m r
   visit-below {γ} a h =
       passed-at node-inner (below-passed t i γ m p.side _ node-inner right-inner skips-inner _ ready.counted a h)
 
   -- a node that a pass found not below is not below
-  pub visit-not-below : {γ : ℕ} {r : Tried} → r.answer ≡ true → γ ≤ get_or m.highs i 0
+  pub visit-not-below : {γ : ℕ} {r : Bool} → r ≡ true → γ ≤ get_or m.highs i 0
       → marked m.not_below i ≡ true → Passed t (tree_at t i) γ m m r
   visit-not-below {γ} a h b =
       passed-at node-inner
@@ -146,10 +131,10 @@ module _ {t : List ℕ} {i first end : ℕ} (family : Family t i first end) {m :
       }
 
   -- any other is entered, and gets the best of its children's highs and their answer
-  pub visit-entered : {γ v x now : ℕ} {m' : Memory} {r : Tried} → γ ≤ get_or m.highs i 0
+  pub visit-entered : {γ v x now : ℕ} {m' : Memory} {r : Bool} → γ ≤ get_or m.highs i 0
       → marked m.not_below i ≡ false
-      → MemoryRoom (frames t) m' → Left t p.side γ first end m m' now r.answer
-      → KeepsBest p.side r.answer m'.highs first end now v x
+      → MemoryRoom (frames t) m' → Left t p.side γ first end m m' now r
+      → KeepsBest p.side r m'.highs first end now v x
       → Passed t (tree_at t i) γ m
       (memory m'.leaves m'.evaluated m'.order (set m'.highs i v) (set m'.not_below i x)) r
   visit-entered {γ} {v} {x} {now} {m'} {r} h b room left keeps =

@@ -3,19 +3,21 @@
 #![tactic(auto)]
 
 ghost use Rattle.std.specs.Prelude.{◌≡◌, true, false, cond, ◌||◌, [], ◌∷◌, ℕ, ◌+◌, ◌-◌, ◌<◌, ◌≤◌, leb, eqb};
-ghost use Rattle.std.specs.Prelude.{length, get_or, set};
+ghost use Rattle.std.specs.Prelude.{length, get_or, set, IfSome};
 ghost use Rattle.gametree.specs.Mtd.{settles as settles_of};
 ghost use Rattle.table.specs.Frame.{max_nodes, frames, child_count};
 ghost use Rattle.table.specs.Position.{depth_of};
 ghost use Rattle.table.specs.Tree.{valuation};
 ghost use Rattle.certificate_bounds.specs.Marks.{marked, ones};
-ghost use Rattle.certificate_bounds.specs.Engine.Evaluable.{Evaluable};
-ghost use Rattle.certificate_bounds.specs.Engine.Progress.{progress, evaluate_all, Listable};
-ghost use Rattle.mtd_memory.specs.Engine.Memory.{memory, VisitReady, Looked, PassedOver, skip_at, skip_entry};
-ghost use Rattle.mtd_memory.specs.Engine.Memory.{NamesTwo, lead_entry, ToTry, Alone, KeepsBest, FoundBelow, Best};
+ghost use Rattle.certificate_bounds.specs.Engine.Progress.{evaluate_all, Listable};
+ghost use Rattle.certificate_bounds.specs.Engine.Evaluations.{progress_of};
+ghost use Rattle.mtd_memory.specs.Engine.Memory.{memory_of, SameArrays, VisitReady, Looked, PassedOver, place_or};
+ghost use Rattle.mtd_memory.specs.Engine.Memory.{skip_at, skip_entry, NamesTwo, lead_entry, ToTry, Alone, KeepsBest};
+ghost use Rattle.mtd_memory.specs.Engine.Memory.{FoundBelow, Siblings, Best};
 
-use certificate_bounds::{Evaluation, best, evaluate_next};
+use certificate_bounds::{Evaluations, best};
 use gametree::{Position, Side, better};
+use std::ops::Range;
 use table::child_count;
 
 // An entry of `not_below` from this one on names a leading child.
@@ -24,219 +26,204 @@ const LEADS: u16 = 256;
 // A node with fewer children names no leading one: to look at each of them costs less.
 const FEW: usize = 4;
 
-// What a node that was tried gives: the answer, true where the node is not below the test, and how many leaves are
-// evaluated by then.
-#[derive(Clone, Copy)]
-pub struct Tried {
-    pub answer: bool,
-    pub leaves: usize,
+// What MTD's passes keep: the evaluations, each node's high, and an entry for each inner node. The entry is 1 where a
+// pass found the node not below its test; for a Min node else 0, or one more than the number of its leading children
+// to skip; for a Max node else 0, or 256 * (1 + the leading child's place) + the second one's place. Enums would take
+// more of the stack for 4096 nodes, and more steps to look at.
+#[derive(Drop)]
+pub struct Memory<'a, 'b> {
+    pub evaluations: &'a mut Evaluations<'b>,
+    pub highs: &'a mut [u32],
+    pub not_below: &'a mut [u16],
 }
 
-// What a look at a node gives: the node's answer, or that the pass has to enter it.
-#[derive(Clone, Copy)]
-pub enum Seen {
-    Answered(Tried),
-    Open,
-}
-
-// A look at a node: a leaf is compared with the test, and an inner node is below where its high is, and not below where
-// a pass has found it so; any other is open.
-pub fn look(
-    table: &[u8],
-    evaluated: &mut [u8],
-    order: &mut [u16],
-    highs: &mut [u32],
-    not_below: &[u16],
-    node: usize,
-    position: Position,
-    test: u32,
-    leaves: usize,
-) -> Seen
-    requires { VisitReady table.now (memory leaves evaluated.old order.old highs.old not_below.now) node
-        position }
-    ensures { Looked table.now node test
-        (memory leaves evaluated.old order.old highs.old not_below.now)
-        (λ n. memory n evaluated.new order.new highs.new not_below.now)
-        result }
-{
-    if child_count(table, node) == 0 {
-        return Seen::Answered(visit_leaf(
-            table,
-            evaluated,
-            order,
-            highs,
-            node,
-            position.depth,
-            test,
-            leaves,
-        ));
+impl Memory<'_, '_> {
+    // A look at a node gives its answer, true where it is not below the test, or nothing where the pass has to enter
+    // it. A leaf is compared with the test, and an inner node is below where its high is, and not below where a pass
+    // has found it so.
+    pub fn look(&mut self, table: &[u8], node: usize, position: Position, test: u32) -> Option<bool>
+        requires { VisitReady table.now (memory_of self.old) node position }
+        ensures looked { Looked table.now node test (memory_of self.old) (memory_of self.new) result }
+        ensures not_below_after { self.new.not_below.now ≡ self.old.not_below.now }
+        ensures same_arrays { SameArrays self.old self.new }
+    {
+        if child_count(table, node) == 0 {
+            return Some(self.visit_leaf(table, node, position.depth, test));
+        }
+        if self.highs[node] < test {
+            return Some(false);
+        }
+        if self.not_below[node] == 1 {
+            return Some(true);
+        }
+        None
     }
-    if highs[node] < test {
-        return not_entered(false, leaves);
-    }
-    if not_below[node] == 1 {
-        return not_entered(true, leaves);
-    }
-    Seen::Open
-}
 
-// The children that a pass has to try: those from `from` up to `to`.
-#[derive(Clone, Copy)]
-pub struct Tries {
-    pub from: usize,
-    pub to: usize,
-}
+    // A pass at a leaf: its score, which is its high once it is evaluated, is compared with the test. A leaf with a
+    // mark is not evaluated again.
+    pub fn visit_leaf(&mut self, table: &[u8], node: usize, depth: u32, test: u32) -> bool
+        requires node_bound { (node < frames table.now) × (node < length self.old.evaluations.now.marks.now)
+            × (node < length self.old.highs.now) }
+        requires node_value { (child_count table.now node ≡ 0) × (depth ≡ depth_of table.now node)
+            × (depth ≤ max_nodes) }
+        requires node_value_2 { marked self.old.evaluations.now.marks.now node ≡ true
+            → get_or self.old.highs.now node 0 ≡ valuation table.now node }
+        requires listable { Listable table.now (progress_of self.old.evaluations.now) }
+        ensures answer_value { result ≡ leb test (valuation table.now node) }
+        ensures order_after { progress_of self.new.evaluations.now
+            ≡ evaluate_all (progress_of self.old.evaluations.now)
+            (cond (marked self.old.evaluations.now.marks.now node) [] (node ∷ [])) }
+        ensures evaluated_after { self.new.evaluations.now.marks.now ≡ set self.old.evaluations.now.marks.now node 1 }
+        ensures highs_after { self.new.highs.now ≡ set self.old.highs.now node (valuation table.now node) }
+        ensures not_below_after { self.new.not_below.now ≡ self.old.not_below.now }
+        ensures leaves_value { self.new.evaluations.now.leaves
+            ≡ ones self.new.evaluations.now.marks.now (frames table.now) }
+        ensures same_arrays { SameArrays self.old self.new }
+    {
+        if self.evaluations.marks[node] != 1 {
+            self.highs[node] = self.evaluations.evaluate(table, node, depth);
+        }
+        test <= self.highs[node]
+    }
 
-// The children of a node that a pass has to try: a Min node skips the leading ones that were found not below, and a Max
-// node tries the leading one alone, where the highs of all the others are below the test.
-pub fn to_try(
-    side: Side,
-    highs: &[u32],
-    not_below: &[u16],
-    node: usize,
-    first: usize,
-    end: usize,
-    test: u32,
-) -> Tries
-    requires first_lt_end { (first < end) × (end ≤ length highs.now) × (node < length not_below.now) }
-    requires node_bound { side ≡ Side.Min → first + skip_at not_below.now node < end }
-    requires names_two { side ≡ Side.Max → NamesTwo highs.now first end (get_or not_below.now node 0) }
-    ensures { ToTry side highs.now test first end (get_or not_below.now node 0) result }
-{
-    let entry = not_below[node];
-    match side {
-        Side::Max => tried_by_max(highs, entry, first, end, test),
-        Side::Min => Tries {
-            from: first + skipped(entry),
-            to: end,
-        },
+    // The children of a node that a pass has to try: a Min node skips the leading ones that were found not below, and
+    // a Max node tries the leading one alone, where the highs of all the others are below the test.
+    pub fn to_try(&self, side: Side, node: usize, children: Range<usize>, test: u32) -> Range<usize>
+        requires first_lt_end { (children.start < children.end) × (children.end ≤ length self.now.highs.now)
+            × (node < length self.now.not_below.now) }
+        requires node_bound { side ≡ Side.Min
+            → children.start + skip_at self.now.not_below.now node < children.end }
+        requires names_two { side ≡ Side.Max
+            → NamesTwo self.now.highs.now children.start children.end (get_or self.now.not_below.now node 0) }
+        ensures { ToTry side self.now.highs.now test children.start children.end
+            (get_or self.now.not_below.now node 0) result }
+    {
+        let entry = self.not_below[node];
+        match side {
+            Side::Max => tried_by_max(self.highs, entry, children, test),
+            Side::Min => children.start + entry.saturating_sub(1) as usize..children.end,
+        }
+    }
+
+    // The next child to try, if there is one: under Max those whose highs are below the test are passed over.
+    pub fn next_tried(&self, side: Side, mut children: Range<usize>, test: u32) -> Option<usize>
+        requires { (children.start ≤ children.end) × (children.end ≤ length self.now.highs.now) }
+        ensures place { PassedOver side self.now.highs.now test children.start children.end
+            (place_or children.end result) }
+        ensures inside { IfSome result (λ child. child < children.end) }
+    {
+        match side {
+            Side::Max => first_not_below(self.highs, children, test),
+            Side::Min => children.next(),
+        }
+    }
+
+    // A node keeps the best of its children's highs, and their answer; `child` comes after the last child that was
+    // tried.
+    pub fn remember(
+        &mut self,
+        node: usize,
+        side: Side,
+        children: Range<usize>,
+        tries: Range<usize>,
+        child: usize,
+        answer: bool,
+    )
+        requires siblings { Siblings self.old.highs.now children }
+        requires node_lt_max_nodes { (node < max_nodes) × (node < length self.old.highs.now)
+            × (node < length self.old.not_below.now) }
+        requires found_below { side ≡ Side.Min → answer ≡ false
+            → FoundBelow self.old.highs.now children.start children.end child }
+        requires alone { side ≡ Side.Max → Alone self.old.highs.now children.start children.end
+            (get_or self.old.not_below.now node 0) tries }
+        ensures evaluations_after { self.new.evaluations.now ≡ self.old.evaluations.now }
+        ensures highs_after { self.new.highs.now
+            ≡ set self.old.highs.now node (get_or self.new.highs.now node 0) }
+        ensures not_below_after { self.new.not_below.now
+            ≡ set self.old.not_below.now node (get_or self.new.not_below.now node 0) }
+        ensures keeps_best { KeepsBest side answer self.old.highs.now children.start children.end child
+            (get_or self.new.highs.now node 0) (get_or self.new.not_below.now node 0) }
+        ensures same_arrays { SameArrays self.old self.new }
+    {
+        let kept = self.kept_by(node, side, children, tries, child, answer);
+        self.highs[node] = kept.high;
+        self.not_below[node] = kept.entry;
+    }
+
+    // What a node keeps of its children.
+    fn kept_by(
+        &self,
+        node: usize,
+        side: Side,
+        children: Range<usize>,
+        tries: Range<usize>,
+        child: usize,
+        answer: bool,
+    ) -> Kept
+        requires siblings { Siblings self.now.highs.now children }
+        requires node_bound { node < length self.now.not_below.now }
+        requires found_below { side ≡ Side.Min → answer ≡ false
+            → FoundBelow self.now.highs.now children.start children.end child }
+        requires alone { side ≡ Side.Max → Alone self.now.highs.now children.start children.end
+            (get_or self.now.not_below.now node 0) tries }
+        ensures { KeepsBest side answer self.now.highs.now children.start children.end child
+            result.high result.entry }
+    {
+        match side {
+            Side::Max => kept_by_max(self.highs, self.not_below[node], children, tries, answer),
+            Side::Min => kept_by_min(self.highs, children, child, answer),
+        }
     }
 }
 
 // The children of a Max node that a pass has to try.
-fn tried_by_max(highs: &[u32], entry: u16, first: usize, end: usize, test: u32) -> Tries
-    requires first_lt_end { (first < end) × (end ≤ length highs.now) }
-    requires names_two { NamesTwo highs.now first end entry }
-    ensures { ToTry Side.Max highs.now test first end entry result }
+fn tried_by_max(highs: &[u32], entry: u16, children: Range<usize>, test: u32) -> Range<usize>
+    requires first_lt_end { (children.start < children.end) × (children.end ≤ length highs.now) }
+    requires names_two { NamesTwo highs.now children.start children.end entry }
+    ensures { ToTry Side.Max highs.now test children.start children.end entry result }
 {
     if entry < LEADS {
-        return Tries {
-            from: first,
-            to: end,
-        };
+        return children;
     }
-    if test <= highs[first + (entry % LEADS) as usize] {
-        return Tries {
-            from: first,
-            to: end,
-        };
+    if test <= highs[children.start + (entry % LEADS) as usize] {
+        return children;
     }
-    let to = first + (entry / LEADS) as usize;
-    Tries { from: to - 1, to }
+    let to = children.start + (entry / LEADS) as usize;
+    to - 1..to
 }
 
-// How many leading children an entry says to skip, since a pass found them not below.
-fn skipped(entry: u16) -> usize
-    ensures { result ≡ entry - 1 }
+// The first node of a range whose high is not below the test.
+pub fn first_not_below(highs: &[u32], nodes: Range<usize>, test: u32) -> Option<usize>
+    requires { (nodes.start ≤ nodes.end) × (nodes.end ≤ length highs.now) }
+    ensures lower_bound { (nodes.start ≤ place_or nodes.end result) × (place_or nodes.end result ≤ nodes.end) }
+    ensures by_index { (k : ℕ) → nodes.start ≤ k → k < place_or nodes.end result → get_or highs.now k 0 < test }
+    ensures inside { IfSome result (λ node. node < nodes.end) }
 {
-    if entry == 0 { 0 } else { (entry - 1) as usize }
-}
-
-// The next child to try: under Max those whose highs are below the test are passed over.
-pub fn next_tried(side: Side, highs: &[u32], child: usize, end: usize, test: u32) -> usize
-    requires { (child ≤ end) × (end ≤ length highs.now) }
-    ensures { PassedOver side highs.now test child end result }
-{
-    match side {
-        Side::Max => first_not_below(highs, child, end, test),
-        Side::Min => child,
-    }
-}
-
-// The first node from `from` on whose high is not below the test; `end` where there is none before it.
-pub fn first_not_below(highs: &[u32], from: usize, end: usize, test: u32) -> usize
-    requires { (from ≤ end) × (end ≤ length highs.now) }
-    ensures lower_bound { (from ≤ result) × (result ≤ end) }
-    ensures by_index { (k : ℕ) → from ≤ k → k < result → get_or highs.now k 0 < test }
-{
-    let mut node = from;
-    while node < end {
-        if test <= highs[node] {
-            return node;
-        }
-        node += 1;
-    }
-    node
+    let first = nodes.start;
+    let place = highs[first..nodes.end]
+        .iter()
+        .position(|high| test <= *high)?;
+    Some(first + place)
 }
 
 // What a node keeps: its high, and its entry of `not_below`.
 #[derive(Clone, Copy)]
-pub struct Kept {
-    pub high: u32,
-    pub entry: u16,
-}
-
-// A node keeps the best of its children's highs, and their answer; `child` comes after the last child that was tried.
-pub fn remember(
-    highs: &mut [u32],
-    not_below: &mut [u16],
-    node: usize,
-    first: usize,
-    child: usize,
-    tries: Tries,
-    end: usize,
-    side: Side,
-    answer: bool,
-)
-    requires first_lt_end { (first < end) × (end ≤ length highs.old) × (end ≤ first + 255) }
-    requires node_lt_max_nodes { (node < max_nodes) × (node < length highs.old) × (node < length not_below.old) }
-    requires found_below { side ≡ Side.Min → answer ≡ false → FoundBelow highs.old first end child }
-    requires alone { side ≡ Side.Max → Alone highs.old first end (get_or not_below.old node 0) tries }
-    ensures highs_after { highs.new ≡ set highs.old node (get_or highs.new node 0) }
-    ensures not_below_after { not_below.new
-        ≡ set not_below.old node (get_or not_below.new node 0) }
-    ensures keeps_best { KeepsBest side answer highs.old first end child (get_or highs.new node 0)
-        (get_or not_below.new node 0) }
-{
-    let entry = not_below[node];
-    let kept = kept_by(highs, entry, first, child, tries, end, side, answer);
-    highs[node] = kept.high;
-    not_below[node] = kept.entry;
-}
-
-// What a node keeps of its children.
-fn kept_by(
-    highs: &[u32],
+struct Kept {
+    high: u32,
     entry: u16,
-    first: usize,
-    child: usize,
-    tries: Tries,
-    end: usize,
-    side: Side,
-    answer: bool,
-) -> Kept
-    requires first_lt_end { (first < end) × (end ≤ length highs.now) × (end ≤ first + 255) }
-    requires found_below { side ≡ Side.Min → answer ≡ false → FoundBelow highs.now first end child }
-    requires alone { side ≡ Side.Max → Alone highs.now first end entry tries }
-    ensures { KeepsBest side answer highs.now first end child result.high result.entry }
-{
-    match side {
-        Side::Max => kept_by_max(highs, entry, first, tries, end, answer),
-        Side::Min => kept_by_min(highs, first, child, end, answer),
-    }
 }
 
 // What a Min node keeps: below, the high of the child found below, and to skip the children before it.
-fn kept_by_min(highs: &[u32], first: usize, child: usize, end: usize, answer: bool) -> Kept
-    requires first_lt_end { (first < end) × (end ≤ length highs.now) × (end ≤ first + 255) }
-    requires found_below { answer ≡ false → FoundBelow highs.now first end child }
-    ensures { KeepsBest Side.Min answer highs.now first end child result.high result.entry }
+fn kept_by_min(highs: &[u32], children: Range<usize>, child: usize, answer: bool) -> Kept
+    requires siblings { Siblings highs.now children }
+    requires found_below { answer ≡ false → FoundBelow highs.now children.start children.end child }
+    ensures { KeepsBest Side.Min answer highs.now children.start children.end child result.high result.entry }
 {
     if answer {
-        let high = best(highs, first, end, Side::Min);
+        let high = best(highs, children.start, children.end, Side::Min);
         return Kept { high, entry: 1 };
     }
-    let entry = skip_entry(child - (first + 1));
+    let entry = skip_entry(child - (children.start + 1));
     Kept {
         high: highs[child - 1],
         entry,
@@ -247,27 +234,23 @@ fn kept_by_min(highs: &[u32], first: usize, child: usize, end: usize, answer: bo
 fn kept_by_max(
     highs: &[u32],
     entry: u16,
-    first: usize,
-    tries: Tries,
-    end: usize,
+    children: Range<usize>,
+    tries: Range<usize>,
     answer: bool,
 ) -> Kept
-    requires first_lt_end { (first < end) × (end ≤ length highs.now) × (end ≤ first + 255) }
-    requires alone { Alone highs.now first end entry tries }
+    requires siblings { Siblings highs.now children }
+    requires alone { Alone highs.now children.start children.end entry tries }
     ensures { (child : ℕ)
-        → KeepsBest Side.Max answer highs.now first end child result.high result.entry }
+        → KeepsBest Side.Max answer highs.now children.start children.end child result.high result.entry }
 {
-    if entry < LEADS {
-        return kept_of_all(highs, first, end, answer);
+    if entry < LEADS || tries.start + 1 != tries.end {
+        return kept_of_all(highs, children, answer);
     }
-    if tries.from + 1 != tries.to {
-        return kept_of_all(highs, first, end, answer);
-    }
-    let lead = tries.from;
+    let lead = tries.start;
     let high = better(
         Side::Max,
         highs[lead],
-        highs[first + (entry % LEADS) as usize],
+        highs[children.start + (entry % LEADS) as usize],
     );
     if answer {
         return Kept { high, entry: 1 };
@@ -276,20 +259,21 @@ fn kept_by_max(
 }
 
 // What a Max node keeps where all its children may have been tried.
-fn kept_of_all(highs: &[u32], first: usize, end: usize, answer: bool) -> Kept
-    requires { (first < end) × (end ≤ length highs.now) × (end ≤ first + 255) }
+fn kept_of_all(highs: &[u32], children: Range<usize>, answer: bool) -> Kept
+    requires siblings { Siblings highs.now children }
     ensures { (child : ℕ)
-        → KeepsBest Side.Max answer highs.now first end child result.high result.entry }
+        → KeepsBest Side.Max answer highs.now children.start children.end child result.high result.entry }
 {
     if answer {
-        let high = best(highs, first, end, Side::Max);
+        let high = best(highs, children.start, children.end, Side::Max);
         return Kept { high, entry: 1 };
     }
-    if end - first < FEW {
-        let high = best(highs, first, end, Side::Max);
+    if children.end - children.start < FEW {
+        let high = best(highs, children.start, children.end, Side::Max);
         return Kept { high, entry: 0 };
     }
-    let two = two_best(highs, first, end);
+    let first = children.start;
+    let two = two_best(highs, children);
     Kept {
         high: two.most,
         entry: lead_entry(two.lead - first, two.second - first),
@@ -317,48 +301,48 @@ struct TwoBest {
     more: u32,
 }
 
+impl TwoBest {
+    // The two best children where one more is looked at.
+    fn with_child(self, highs: &[u32], child: usize) -> TwoBest
+        requires { child < length highs.now }
+        ensures { (first : ℕ) → Best highs.now first child self → Best highs.now first (child + 1) result }
+    {
+        let high = highs[child];
+        if high <= self.more {
+            return self;
+        }
+        if high <= self.most {
+            return TwoBest {
+                second: child,
+                more: high,
+                ..self
+            };
+        }
+        TwoBest {
+            lead: child,
+            second: self.lead,
+            most: high,
+            more: self.most,
+        }
+    }
+}
+
 // The two best children by their highs.
-fn two_best(highs: &[u32], first: usize, end: usize) -> TwoBest
-    requires { (first < end) × (end ≤ length highs.now) }
-    ensures { Best highs.now first end result }
+fn two_best(highs: &[u32], children: Range<usize>) -> TwoBest
+    requires { (children.start < children.end) × (children.end ≤ length highs.now) }
+    ensures { Best highs.now children.start children.end result }
 {
+    let first = children.start;
     let mut two = TwoBest {
         lead: first,
         second: first,
         most: highs[first],
         more: 0,
     };
-    let mut at = first + 1;
-    while at < end {
-        two = with_child(highs, first, at, two);
-        at += 1;
+    for child in first + 1..children.end {
+        two = two.with_child(highs, child);
     }
     two
-}
-
-// The two best children where one more is looked at.
-fn with_child(highs: &[u32], first: usize, child: usize, two: TwoBest) -> TwoBest
-    requires { (child < length highs.now) × (Best highs.now first child two) }
-    ensures { Best highs.now first (child + 1) result }
-{
-    let high = highs[child];
-    if high <= two.more {
-        return two;
-    }
-    if high <= two.most {
-        return TwoBest {
-            lead: two.lead,
-            second: child,
-            most: two.most,
-            more: high,
-        };
-    }
-    TwoBest {
-        lead: child,
-        second: two.lead,
-        most: high,
-        more: two.most,
-    }
 }
 
 // The entry that says to skip so many children.
@@ -369,22 +353,11 @@ fn skip_entry(count: usize) -> u16
     if count == 0 { 0 } else { (count + 1) as u16 }
 }
 
-// A node that is not entered has its answer at once.
-pub fn not_entered(answer: bool, leaves: usize) -> Seen
-    ensures { result ≡ Seen.Answered (record { answer = answer; leaves = leaves }) }
-{
-    Seen::Answered(Tried { answer, leaves })
-}
-
 // Is a child with this answer the last one to try, because it settles its parent or there is no other?
 pub fn last_tried(side: Side, answer: bool, child: usize, end: usize) -> bool
     ensures { result ≡ eqb child end || settles_of side answer }
 {
-    if child == end {
-        true
-    } else {
-        settles(side, answer)
-    }
+    child == end || settles(side, answer)
 }
 
 // Does a child's answer settle its parent? At Max "not below" does, at Min "below".
@@ -395,63 +368,4 @@ pub fn settles(side: Side, answer: bool) -> bool
         Side::Max => answer,
         Side::Min => !answer,
     }
-}
-
-// A pass at a leaf: its score is compared with the test. A leaf with a mark is not evaluated again: its score is its
-// high.
-pub fn visit_leaf(
-    table: &[u8],
-    evaluated: &mut [u8],
-    order: &mut [u16],
-    highs: &mut [u32],
-    node: usize,
-    depth: u32,
-    test: u32,
-    leaves: usize,
-) -> Tried
-    requires node_bound { (node < frames table.now) × (node < length evaluated.old) × (node < length highs.old) }
-    requires node_value { (child_count table.now node ≡ 0) × (depth ≡ depth_of table.now node) × (depth ≤ max_nodes) }
-    requires node_value_2 { marked evaluated.old node ≡ true → get_or highs.old node 0 ≡ valuation table.now node }
-    requires listable { Listable table.now (progress leaves evaluated.old order.old) }
-    ensures answer_value { result.answer ≡ leb test (valuation table.now node) }
-    ensures order_after { progress result.leaves evaluated.new order.new
-        ≡ evaluate_all (progress leaves evaluated.old order.old)
-        (cond (marked evaluated.old node) [] (node ∷ [])) }
-    ensures evaluated_after { evaluated.new ≡ set evaluated.old node 1 }
-    ensures highs_after { highs.new ≡ set highs.old node (valuation table.now node) }
-    ensures leaves_value { result.leaves ≡ ones evaluated.new (frames table.now) }
-{
-    if evaluated[node] == 1 {
-        let answer = test <= highs[node];
-        return Tried { answer, leaves };
-    }
-    let leaf = evaluate_leaf(table, evaluated, order, highs, node, depth, leaves);
-    let answer = test <= leaf.score;
-    Tried {
-        answer,
-        leaves: leaf.leaves,
-    }
-}
-
-// A leaf without a mark is evaluated, and its score is its high from then on.
-pub fn evaluate_leaf(
-    table: &[u8],
-    evaluated: &mut [u8],
-    order: &mut [u16],
-    highs: &mut [u32],
-    node: usize,
-    depth: u32,
-    leaves: usize,
-) -> Evaluation
-    requires evaluable { Evaluable table.now evaluated.old node depth }
-    requires listable { Listable table.now (progress leaves evaluated.old order.old) }
-    requires node_in_bounds { node < length highs.old }
-    ensures score_value { (result.score ≡ valuation table.now node) × (result.leaves ≡ leaves + 1) }
-    ensures evaluated_after { evaluated.new ≡ set evaluated.old node 1 }
-    ensures order_after { order.new ≡ set order.old leaves node }
-    ensures highs_after { highs.new ≡ set highs.old node result.score }
-{
-    let leaf = evaluate_next(table, evaluated, order, node, depth, leaves);
-    highs[node] = leaf.score;
-    leaf
 }

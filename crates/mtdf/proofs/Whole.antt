@@ -1,6 +1,6 @@
 -- The steps of a whole search: the cleared memory is the fresh one, the last phase is a test of the root's children,
 -- the tests end with the minimax value and the root move, and the marks are those of the leaves of MTD(f).
-use Rattle.prelude.proofs.{ℕ, ◌≤◌, ◌<◌, arith, ◌≡◌, refl, sym, ap, ◌∙◌, subst, false, List, length, get_or}
+use Rattle.prelude.proofs.{ℕ, ◌≤◌, ◌<◌, arith, ◌≡◌, refl, sym, ap, ap₂, ◌∙◌, subst, Bool, false, List, length}
 use Rattle.prelude.proofs.{replicate, length-replicate, get_or-replicate, ℤ}
 use Rattle.lists.specs.{among}
 use Rattle.gametree.specs.declared.Side.TheVariants.{Max}
@@ -16,21 +16,20 @@ use Rattle.table.proofs.Proper.{tree-proper}
 use Rattle.table_positions.specs.{written}
 use Rattle.certificate_bounds.specs.{marked, progress, evaluate_all}
 use Rattle.certificate_bounds.proofs.Listing.{first-evaluated}
-use Rattle.certificate_flags.specs.{first_equal}
+use Rattle.certificate_flags.specs.{chosen_child}
 use Rattle.certificate_write.specs.{marks_of, listed}
 use Rattle.certificate_write.proofs.Chosen.{chosen_of, by-bounds, chosen-root}
 use Rattle.certificate_write.proofs.Outcomes.{search-marks}
 use Rattle.mtd_memory.proofs.Turns.{tree-kids}
 use Rattle.mtdf.specs.declared.Met.{Met}
-use Rattle.mtdf_visits.specs.declared.Tried.{Tried}
 use Rattle.methods.specs.declared.Findings.{Findings}
 use Rattle.methods.specs.declared.Method.TheVariants.{MtdFrom}
 use Rattle.methods.specs.{start_score, decision_of, evaluated_by, findings_by}
 use Rattle.methods.proofs.Rules.{decides}
-use Rattle.mtdf_visits.specs.{Memory, memory, progress_of, so_far, MemoryRoom, VisitReady, Counted, BoundsRight}
-use Rattle.mtdf_visits.specs.{Evaluated, Entered, Fresh}
+use Rattle.mtdf_visits.specs.{Memory, memory, so_far, MemoryRoom, VisitReady, Counted, BoundsRight}
+use Rattle.mtdf_visits.specs.{Long, Evaluated, Entered, Fresh}
 use Rattle.mtdf.specs.{mtdf_leaves, MetAt, MovedTo, Settles}
-use Rattle.mtdf_visits.proofs.Arrays.{Long, room-kept, evaluated-none, evaluated-more}
+use Rattle.mtdf_visits.proofs.Arrays.{room-kept, evaluated-none, evaluated-more}
 
 -- findings that agree field by field
 same-fields : (f : Findings) {v : ℤ} {m k n : ℕ} → v ≡ f.value → m ≡ f.root_move → k ≡ f.leaves → n ≡ f.steps
@@ -82,7 +81,7 @@ module _ (t : List ℕ) (wf : WellFormed t) where
         right = b;
       }
 
-  pub moved-inner : (v : ℕ) (m m' : Memory) (r : Tried) → 0 < child_count t 0 → Entered t (tree t) v m m' r
+  pub moved-inner : (v : ℕ) (m m' : Memory) (r : Bool) → 0 < child_count t 0 → Entered t (tree t) v m m' r
       → MovedTo t v m m'
   moved-inner v m m' r some d =
       let is = tree-kids (record { formed = wf; inside = wf.non_empty; from = refl; to = refl }) Max
@@ -100,8 +99,7 @@ module _ (t : List ℕ) (wf : WellFormed t) where
 
   -- where the lows are right, the first of the root's children whose low is the root's is the move that they show
   low-move : (m : Memory) → BoundsRight t m (tree t)
-      → first_equal (λ k. get_or m.lows k 0) (get_or m.lows 0 0) 1 (child_count t 0)
-      ≡ bound_move (valuation t) (among (so_far m)) (tree t)
+      → chosen_child m.lows 0 1 (child_count t 0) ≡ bound_move (valuation t) (among (so_far m)) (tree t)
   unfolding chosen_of next
   low-move m right =
       let E = among (so_far m) in
@@ -115,12 +113,14 @@ module _ (t : List ℕ) (wf : WellFormed t) where
     decision-right =
         search-deciding (valuation t) (tree t) (tree-proper t wf) (mtdf-searched (valuation t) f (tree t))
 
-    -- both phases together: the leaves of MTD(f), and the move by the lows that they leave
+    -- both phases together, with marks and list back in the buffers that were lent: the leaves of MTD(f), and the move
+    -- by the lows that they leave
     pub settled-both : (e o l h : List ℕ) (m' m'' : Memory) (s : Met) (r : Findings) → MetAt t f (memory 0 e o l h) m' s
         → MovedTo t s.score m' m'' → r.value ≡ value_of s.score
-        → r.root_move ≡ first_equal (λ k. get_or m''.lows k 0) (get_or m''.lows 0 0) 1 (child_count t 0)
-        → r.steps ≡ s.tests → Settles t f (progress 0 e o) (progress_of m'') r
-    settled-both e o l h m' m'' s r x y p q n =
+        → r.root_move ≡ chosen_child m''.lows 0 1 (child_count t 0) → r.steps ≡ s.tests
+        → {e' o' : List ℕ} → e' ≡ m''.evaluated → o' ≡ m''.order
+        → Settles t f (progress 0 e o) (progress m''.leaves e' o') r
+    settled-both e o l h m' m'' s r x y p q n i j =
         let w : so_far m'' ≡ mtdf_leaves f t = y.evaluated.listed ∙ sym x.leaves in
         record {
           value = p ∙ ap value_of x.score;
@@ -129,9 +129,9 @@ module _ (t : List ℕ) (wf : WellFormed t) where
               ∙ decision-right.move;
           tests = n ∙ x.tests;
           evaluated =
-              (evaluated-more x.evaluated y.evaluated).all
+              ap₂ (progress m''.leaves) i j ∙ (evaluated-more x.evaluated y.evaluated).all
               ∙ ap (evaluate_all (progress 0 e o)) (sym x.leaves);
-          counted = y.counted.number;
+          counted = rw i y.counted.number;
         }
 
   -- the steps together: e is cleared to e₁, and the tests from the starting value make it e₂ and the list o₂

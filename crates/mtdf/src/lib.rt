@@ -3,28 +3,34 @@
 // for the first move.
 #![tactic(auto)]
 
-ghost use Rattle.std.specs.Prelude.{◌≡◌, cond, false, ℕ, suc, ◌<◌, ◌≤◌, length, get_or};
-ghost use Rattle.gametree.specs.Trees.{greatest};
-ghost use Rattle.gametree.specs.AlphaBeta.{clamp};
-ghost use Rattle.table.specs.Frame.{frames};
+ghost use Rattle.std.specs.Prelude.{◌≡◌, false, ℕ, ◌<◌, ◌≤◌, length};
+ghost use Rattle.table.specs.Frame.{max_nodes, frames, child_count};
 ghost use Rattle.table.specs.Position.{root_position};
 ghost use Rattle.table.specs.Formed.{WellFormed};
 ghost use Rattle.certificate_bounds.specs.Marks.{marked};
 ghost use Rattle.certificate_bounds.specs.Engine.Progress.{progress};
+ghost use Rattle.certificate_flags.specs.Engine.Chosen.{chosen_child};
 ghost use Rattle.certificate_write.specs.Search.{marks_of, listed};
 ghost use Rattle.methods.specs.declared.Method.TheVariants.{MtdFrom};
 ghost use Rattle.methods.specs.Rules.{start_score, evaluated_by};
 ghost use Rattle.methods.specs.Outcome.{findings_by};
-ghost use Rattle.mtdf_visits.specs.Engine.Memory.{memory, Fresh, VisitReady};
+ghost use Rattle.mtdf_visits.specs.Engine.Bounds.{memory_of, SameBuffers};
+ghost use Rattle.mtdf_visits.specs.Engine.Memory.{Long, Fresh, VisitReady};
 ghost use Rattle.mtdf.specs.Engine.Settling.{Settles, MetAt, MovedTo};
 
-use certificate_bounds::clear;
+use certificate_bounds::{Evaluations, clear};
 use certificate_flags::first_equal;
 use gametree::{Position, Side};
 use leaf_value::in_range;
 use methods::Findings;
-use mtdf_visits::{enter, visit};
+use mtdf_visits::Bounds;
 use table::{GREATEST, LEAST, MAX_NODES, child_count, frame_count, score_of, value};
+
+// Where the root stands.
+const ROOT: Position = Position {
+    depth: 0,
+    side: Side::Max,
+};
 
 // What MTD(f) finds from a starting value in a table that was checked: the marks of the evaluated leaves go into the
 // buffer, and their numbers into the list.
@@ -51,17 +57,15 @@ fn start_score(start: i32) -> u32
     if start < 0 { LEAST } else { GREATEST }
 }
 
-// What the tests of the root end with: the score at which its bounds meet, how many leaves were evaluated, and how many
-// tests there were.
+// What the tests of the root end with: the score at which its bounds meet, and how many tests there were.
 #[derive(Clone, Copy)]
 struct Met {
     score: u32,
-    leaves: usize,
     tests: usize,
 }
 
-// The tests over a table without marks: those of the root until its bounds meet, then the last phase; the move is then
-// the first child of the root whose low is the root's.
+// The tests over a table without marks: those of the root until its bounds meet, then the last phase, which shows the
+// move.
 fn settle(table: &[u8], guess: u32, evaluated: &mut [u8], order: &mut [u16]) -> Findings
     requires well_formed { (WellFormed table.now) × (frames table.now ≤ length evaluated.old)
         × (frames table.now ≤ length order.old) }
@@ -69,113 +73,72 @@ fn settle(table: &[u8], guess: u32, evaluated: &mut [u8], order: &mut [u16]) -> 
     ensures { Settles table.now guess (progress 0 evaluated.old order.old)
         (progress result.leaves evaluated.new order.new) result }
 {
+    let mut evaluations = Evaluations {
+        marks: evaluated,
+        order,
+        leaves: 0,
+    };
     let mut lows = [LEAST; MAX_NODES];
     let mut highs = [GREATEST; MAX_NODES];
-    let met = drive(table, guess, evaluated, order, &mut lows, &mut highs);
-    let leaves = find_move(
-        table, evaluated, order, &mut lows, &mut highs, met.score, met.leaves,
-    );
-    let end = 1 + child_count(table, 0);
-    let root_move = first_equal(&lows, 1, end, root_bound(&lows));
-    let value = value(met.score);
+    let mut bounds = Bounds {
+        evaluations: &mut evaluations,
+        lows: &mut lows,
+        highs: &mut highs,
+    };
+    let met = drive(table, guess, &mut bounds);
+    find_move(table, met.score, &mut bounds);
     Findings {
-        value,
-        root_move,
-        leaves,
+        value: value(met.score),
+        root_move: root_move(table, bounds.lows),
+        leaves: bounds.evaluations.leaves,
         steps: met.tests,
     }
 }
 
-// Tests of the root, the first by the guess, until the root's bounds meet.
-fn drive(
-    table: &[u8],
-    guess: u32,
-    evaluated: &mut [u8],
-    order: &mut [u16],
-    lows: &mut [u32],
-    highs: &mut [u32],
-) -> Met
-    requires { Fresh table.now (memory 0 evaluated.old order.old lows.old highs.old) }
-    ensures { MetAt table.now guess
-        (memory 0 evaluated.old order.old lows.old highs.old)
-        (memory result.leaves evaluated.new order.new lows.new highs.new) result }
+// Tests of the root, the first by the guess, until the root's bounds meet: after "not below" the next wish is the
+// root's low + 1, after "below" its high, and each test is the wish brought between these two.
+fn drive(table: &[u8], guess: u32, bounds: &mut Bounds) -> Met
+    requires { Fresh table.now (memory_of bounds.old) }
+    ensures met { MetAt table.now guess (memory_of bounds.old) (memory_of bounds.new) result }
+    ensures same_lengths { Long (memory_of bounds.old) (memory_of bounds.new) }
+    ensures same_buffers { SameBuffers bounds.old bounds.new }
 {
-    let root = Position {
-        depth: 0,
-        side: Side::Max,
-    };
     let mut wish = guess;
-    let mut leaves = 0;
     let mut tests = 0;
-    while root_bound(lows) != root_bound(highs) {
-        let test = between(root_bound(lows) + 1, root_bound(highs), wish);
-        let tried = visit(table, evaluated, order, lows, highs, 0, root, test, leaves);
-        leaves = tried.leaves;
+    // How many tests there are is known when the bounds meet.
+    while bounds.lows[0] != bounds.highs[0] {
+        let test = wish.clamp(bounds.lows[0] + 1, bounds.highs[0]);
+        let answer = bounds.visit(table, 0, ROOT, test);
         tests += 1;
-        wish = next_wish(lows, highs, tried.answer);
+        wish = if answer {
+            bounds.lows[0] + 1
+        } else {
+            bounds.highs[0]
+        };
     }
     Met {
-        score: root_bound(lows),
-        leaves,
+        score: bounds.lows[0],
         tests,
     }
 }
 
-// A bound of the root.
-fn root_bound(bounds: &[u32]) -> u32
-    requires { 0 < length bounds.now }
-    ensures { result ≡ get_or bounds.now 0 0 }
-{
-    bounds[0]
-}
-
-// A test brought between the two ends.
-fn between(from: u32, to: u32, test: u32) -> u32
-    requires { from ≤ to }
-    ensures { result ≡ clamp from to test }
-{
-    if test < from {
-        return from;
-    }
-    if to < test { to } else { test }
-}
-
-// The test to put next: after "not below" the root's low + 1, after "below" its high.
-fn next_wish(lows: &[u32], highs: &[u32], answer: bool) -> u32
-    requires { (0 < length lows.now) × (0 < length highs.now) × (get_or lows.now 0 0 ≤ greatest) }
-    ensures { result ≡ cond answer (suc (get_or lows.now 0 0)) (get_or highs.now 0 0) }
-{
-    if answer {
-        root_bound(lows) + 1
-    } else {
-        root_bound(highs)
-    }
-}
-
 // The last phase: the root's children are tested against the value until one has it, so that the bounds show the first
-// root move. The result is how many leaves are evaluated by then.
-fn find_move(
-    table: &[u8],
-    evaluated: &mut [u8],
-    order: &mut [u16],
-    lows: &mut [u32],
-    highs: &mut [u32],
-    score: u32,
-    leaves: usize,
-) -> usize
-    requires { VisitReady table.now (memory leaves evaluated.old order.old lows.old highs.old) 0
-        root_position }
-    ensures { MovedTo table.now score
-        (memory leaves evaluated.old order.old lows.old highs.old)
-        (memory result evaluated.new order.new lows.new highs.new) }
+// root move.
+fn find_move(table: &[u8], score: u32, bounds: &mut Bounds)
+    requires { VisitReady table.now (memory_of bounds.old) 0 root_position }
+    ensures moved { MovedTo table.now score (memory_of bounds.old) (memory_of bounds.new) }
+    ensures same_lengths { Long (memory_of bounds.old) (memory_of bounds.new) }
+    ensures same_buffers { SameBuffers bounds.old bounds.new }
 {
-    if child_count(table, 0) == 0 {
-        return leaves;
+    if child_count(table, 0) != 0 {
+        bounds.enter(table, 0, ROOT, score);
     }
-    let root = Position {
-        depth: 0,
-        side: Side::Max,
-    };
-    let tried = enter(table, evaluated, order, lows, highs, 0, root, score, leaves);
-    tried.leaves
+}
+
+// The first of the root's children whose low is the root's; 0 where the root is a leaf.
+fn root_move(table: &[u8], lows: &[u32]) -> usize
+    requires { (0 < frames table.now) × (length lows.now ≡ max_nodes) }
+    ensures { result ≡ chosen_child lows.now 0 1 (child_count table.now 0) }
+{
+    first_equal(lows, 1, 1 + child_count(table, 0), lows[0])
 }

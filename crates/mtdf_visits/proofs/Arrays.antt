@@ -4,18 +4,11 @@ use Rattle.prelude.proofs.{◌∷◌, ◌++◌, append-nil, append_assoc, length
 use Rattle.lists.specs.{among}
 use Rattle.lists.proofs.Lists.{among-append, among-right}
 use Rattle.table.specs.{frames}
-use Rattle.certificate_bounds.specs.{marked, evaluate_all, Listable, Evaluable}
+use Rattle.certificate_bounds.specs.{marked, mark_all, evaluate_all, Listable, Evaluable}
 use Rattle.certificate_bounds.proofs.Marking.{marked_other}
-use Rattle.certificate_bounds.proofs.Listing.{none-evaluated, one-evaluated, evaluate_all-append, next-counted}
+use Rattle.certificate_bounds.proofs.Listing.{none-evaluated, evaluate_all-append, next-counted}
 use Rattle.mtd_memory.proofs.Arrays.{marked-same}
-use Rattle.mtdf_visits.specs.{Memory, progress_of, so_far, MemoryRoom, Counted, Evaluated, Same}
-
--- the arrays keep their lengths
-pub record Long (m m' : Memory) : Type 0 where
-  pub evaluated : length m'.evaluated ≡ length m.evaluated
-  pub order : length m'.order ≡ length m.order
-  pub lows : length m'.lows ≡ length m.lows
-  pub highs : length m'.highs ≡ length m.highs
+use Rattle.mtdf_visits.specs.{Memory, progress_of, so_far, MemoryRoom, Long, Counted, Evaluated, Same}
 
 -- so there is room in them as before
 pub room-kept : {n : ℕ} {m m' : Memory} → MemoryRoom n m → Long m m' → MemoryRoom n m'
@@ -25,6 +18,16 @@ room-kept r l =
       order = omega (arith, r.order, l.order);
       lows = omega (arith, r.lows, l.lows);
       highs = omega (arith, r.highs, l.highs);
+    }
+
+-- they are still as long after more
+pub long-more : {m m' m'' : Memory} → Long m m' → Long m' m'' → Long m m''
+long-more a b =
+    record {
+      evaluated = b.evaluated ∙ a.evaluated;
+      order = b.order ∙ a.order;
+      lows = b.lows ∙ a.lows;
+      highs = b.highs ∙ a.highs;
     }
 
 -- nothing was evaluated
@@ -71,17 +74,23 @@ marks-more e w i k h d =
 
 -- the leaf i is evaluated: it is counted, marked and listed, and its bounds are stored
 module _ (t : List ℕ) (m m' : Memory) (i d : ℕ) (room : MemoryRoom (frames t) m) (counted : Counted t m)
-    (u : Evaluable t m.evaluated i d) (listable : Listable t (progress_of m)) (n : m'.leaves ≡ m.leaves + 1)
-    (e : m'.evaluated ≡ set m.evaluated i 1) (o : m'.order ≡ set m.order m.leaves i)
-    (fits : m.leaves < length m.order) where
+    (u : Evaluable t m.evaluated i d) (listable : Listable t (progress_of m))
+    (all : progress_of m' ≡ evaluate_all (progress_of m) (i ∷ [])) (fits : m.leaves < length m.order) where
+  n : m'.leaves ≡ m.leaves + 1
+  n = ap (λ p. p.leaves) all
+
   leaf-listed : so_far m' ≡ so_far m ++ (i ∷ [])
-  leaf-listed = rw (n, o, add-one) (take-suc-set m.order m.leaves i fits)
+  leaf-listed =
+      let o : m'.order ≡ set m.order m.leaves i = ap (λ p. p.order) all in
+      rw (n, o, add-one) (take-suc-set m.order m.leaves i fits)
 
   pub leaf-evaluated : Evaluated m m' (i ∷ [])
-  leaf-evaluated = record { all = one-evaluated m.leaves i m.evaluated m.order n e o; listed = leaf-listed }
+  leaf-evaluated = record { all = all; listed = leaf-listed }
 
   pub leaf-counted : Counted t m'
+  unfolding mark_all
   leaf-counted =
+      let e : m'.evaluated ≡ set m.evaluated i 1 = ap (λ p. p.marks) all in
       record {
         number = rw (n, e) (next-counted t listable u);
         marks = λ k l.

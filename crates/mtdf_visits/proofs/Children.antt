@@ -4,7 +4,6 @@ use Rattle.prelude.proofs.{ℕ, ◌≡◌, refl, sym, ap, ◌∙◌, subst, Bool
 use Rattle.gametree.specs.declared.Side.{Side}
 use Rattle.gametree.specs.{Tree, Children, last, ◌then◌, settles, Tested, passed_on, test, test_children}
 use Rattle.table.specs.{valuation}
-use Rattle.mtdf_visits.specs.declared.Tried.{Tried}
 use Rattle.mtdf_visits.specs.{Memory, so_far, Evaluated, Counted, VisitedBy}
 use Rattle.mtdf_visits.proofs.Arrays.{evaluated-none, evaluated-more}
 
@@ -29,12 +28,12 @@ pub record Remainder (t : List ℕ) (γ : ℕ) (s : Side) (ks rest : Children) (
 pub remainder-all : (t : List ℕ) (γ : ℕ) (s : Side) (ks : Children) (m : Memory) → Remainder t γ s ks ks m m
 remainder-all t γ s ks m = record { done = []; so-far = evaluated-none _; evaluated = refl; answer = refl }
 
-module _ {t : List ℕ} {γ : ℕ} {s : Side} {ks : Children} {m m' m'' : Memory} {T : Tree} {r : Tried}
+module _ {t : List ℕ} {γ : ℕ} {s : Side} {ks : Children} {m m' m'' : Memory} {T : Tree} {r : Bool}
     (p : VisitedBy t T γ m' m'' r) where
   -- a child whose test is that of all the children left ends the loop
   remainder-end : {rest : Children} → Remainder t γ s ks rest m m'
       → test_children_of t γ s m' rest ≡ test (valuation t) γ (so_far m') T
-      → DoneChildren t γ s ks m m'' r.answer
+      → DoneChildren t γ s ks m m'' r
   remainder-end o e =
       record {
         answer = p.answer ∙ ap (λ q. q.not_below) (sym e) ∙ sym o.answer;
@@ -45,18 +44,18 @@ module _ {t : List ℕ} {γ : ℕ} {s : Side} {ks : Children} {m m' m'' : Memory
       }
 
   -- the last child's answer is the node's
-  pub remainder-last : Remainder t γ s ks (last T) m m' → DoneChildren t γ s ks m m'' r.answer
+  pub remainder-last : Remainder t γ s ks (last T) m m' → DoneChildren t γ s ks m m'' r
   remainder-last o = remainder-end o refl
 
   module _ {ts : Children} (o : Remainder t γ s ks (T then ts) m m') where
     -- so is that of a child that settles its parent
-    pub remainder-settled : settles s r.answer ≡ true → DoneChildren t γ s ks m m'' r.answer
+    pub remainder-settled : settles s r ≡ true → DoneChildren t γ s ks m m'' r
     remainder-settled h =
         let e = ap (settles s) (sym p.answer) ∙ h in
         remainder-end o (rw e)
 
     -- after another one its younger siblings are owed
-    pub remainder-rest : settles s r.answer ≡ false → Remainder t γ s ks ts m m''
+    pub remainder-rest : settles s r ≡ false → Remainder t γ s ks ts m m''
     remainder-rest h =
         let e = ap (settles s) (sym p.answer) ∙ h in
         let q = test (valuation t) γ (so_far m') T in

@@ -14,9 +14,8 @@ use Rattle.table.proofs.Trees.{kids-in}
 use Rattle.table.proofs.Nodes.{in-parent, in-trans, children-apart}
 use Rattle.mtd_memory.proofs.Arrays.{bound-local}
 use Rattle.mtd_memory.proofs.Turns.{children_up_to, kids-last, kids-more, Family, child}
-use Rattle.mtdf_visits.specs.declared.Tried.{Tried}
-use Rattle.mtdf_visits.specs.{Memory, so_far, Bounded, BoundsRight, Counted, VisitReady, Same, VisitedBy}
-use Rattle.mtdf_visits.proofs.Arrays.{Long, room-kept, same_more}
+use Rattle.mtdf_visits.specs.{Memory, so_far, Long, Bounded, BoundsRight, Counted, VisitReady, Same, VisitedBy}
+use Rattle.mtdf_visits.proofs.Arrays.{room-kept, same_more}
 use Rattle.mtdf_visits.proofs.Children.{DoneChildren, Remainder, remainder-all, remainder-last}
 use Rattle.mtdf_visits.proofs.Children.{remainder-settled}
 use Rattle.mtdf_visits.proofs.Children.{remainder-rest}
@@ -95,7 +94,7 @@ module _ {t : List ℕ} {i first end : ℕ} (family : Family t i first end) wher
         right = u.around.right now u.from u.to;
       }
 
-  module _ {s : Side} {γ : ℕ} {m m' m'' : Memory} {now : ℕ} {r : Tried} (u : Turn t s γ first end m m' now)
+  module _ {s : Side} {γ : ℕ} {m m' m'' : Memory} {now : ℕ} {r : Bool} (u : Turn t s γ first end m m' now)
       (p : VisitedBy t (tree_at t now) γ m' m'' r) where
     -- the bounds below the other children are as they were
     still-right : (k : ℕ) → first ≤ k → k < end → BoundsRight t m'' (tree_at t k)
@@ -128,10 +127,10 @@ module _ {t : List ℕ} {i first end : ℕ} (family : Family t i first end) wher
           u.remainder
 
     -- after a child that is not the last one tested
-    pub turn-next : Long m m'' → eqb (now + 1) end || settles s r.answer ≡ false
+    pub turn-next : Long m m'' → eqb (now + 1) end || settles s r ≡ false
         → Turn t s γ first end m m'' (now + 1)
     turn-next long e =
-        let b = or-false-both (eqb (now + 1) end) (settles s r.answer) e in
+        let b = or-false-both (eqb (now + 1) end) (settles s r) e in
         let o = u.to in
         let more : now + 1 < end = omega (arith, eqb-false (now + 1) end b.0) in
         record {
@@ -144,8 +143,8 @@ module _ {t : List ℕ} {i first end : ℕ} (family : Family t i first end) wher
         }
 
     -- after the last one tested
-    pub turn_last : eqb (now + 1) end || settles s r.answer ≡ true
-        → Left t s γ first end m m'' r.answer
+    pub turn_last : eqb (now + 1) end || settles s r ≡ true
+        → Left t s γ first end m m'' r
     turn_last e =
         record {
           done =

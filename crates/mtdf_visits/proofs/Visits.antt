@@ -1,5 +1,6 @@
 -- Tests of the table's nodes, in the terms of the code: a look at a node, a leaf, and each way out of an inner node.
 use Rattle.prelude.proofs.{ℕ, ◌+◌, ◌-◌, ◌≤◌, ◌<◌, arith, ◌≡◌, refl, sym, ap, ◌∙◌, subst, inl, inr, Bool, true, false}
+use Rattle.std.specs.Prelude.{Option, Some, None}
 use Rattle.prelude.proofs.{List, [], ◌∷◌, ◌++◌, leb, length, get_or, set, get_or-set_same, get_or-set_other, lt-ltb}
 use Rattle.prelude.proofs.{le-ltb}
 use Rattle.prelude.proofs.{le-leb, lt-leb}
@@ -12,13 +13,10 @@ use Rattle.table.specs.{max_nodes, frames, child_count, tree_at, valuation}
 use Rattle.table.proofs.Positions.{depth-at-most}
 use Rattle.table.proofs.Trees.{in-kids, tree-leaf}
 use Rattle.table.proofs.Nodes.{in-own, tree-distinct}
-use Rattle.certificate_bounds.specs.{Evaluable, Listable, best_in}
+use Rattle.certificate_bounds.specs.{evaluate_all, Evaluable, Listable, best_in}
 use Rattle.certificate_bounds.proofs.Bounds.{best-same, minimax-best}
 use Rattle.certificate_bounds.proofs.Listing.{next_fits}
 use Rattle.mtd_memory.proofs.Turns.{children_up_to, Family, tree-kids}
-use Rattle.mtdf_visits.specs.declared.Seen.{Seen}
-use Rattle.mtdf_visits.specs.declared.Seen.TheVariants.{Answered, Open}
-use Rattle.mtdf_visits.specs.declared.Tried.{Tried}
 use Rattle.mtdf_visits.specs.{Memory, memory, progress_of, so_far, MemoryRoom, Bounded, BoundsRight, Counted}
 use Rattle.mtdf_visits.specs.{VisitReady, Done, entered_test, VisitedBy, Entered, Undecided, Looked}
 use Rattle.mtdf_visits.proofs.Arrays.{evaluated-none, leaf-evaluated, leaf-counted, among-own, among-other}
@@ -39,16 +37,16 @@ module _ (ν : ℕ → ℕ) (γ : ℕ) (w : List ℕ) where
   test-enters (inner n s ks) h l = rw (le-ltb _ _ h, lt-leb _ _ l)
 
 -- what a test that gives the same does
-done-as : {t : List ℕ} {T : Tree} {q q' : Tested} {m m' : Memory} {r : Tried} → q' ≡ q → Done t T q m m' r
+done-as : {t : List ℕ} {T : Tree} {q q' : Tested} {m m' : Memory} {r : Bool} → q' ≡ q → Done t T q m m' r
     → Done t T q' m m' r
 done-as {t} {T} {q} {q'} {m} {m'} {r} e d = subst (λ q. Done t T q m m' r) (sym e) d
 
 -- a node that is answered by its bounds
-stay-done : {t : List ℕ} {T : Tree} {m : Memory} (b : Bool) (r : Tried) → r.answer ≡ b → Counted t m
-    → BoundsRight t m T → Done t T (unopened b) m m r
-stay-done {t} {T} {m} b r a c h =
+stay-done : {t : List ℕ} {T : Tree} {m : Memory} (b : Bool) → Counted t m → BoundsRight t m T
+    → Done t T (unopened b) m m b
+stay-done {t} {T} {m} b c h =
     record {
-      answer = a;
+      answer = refl;
       evaluated = evaluated-none m;
       counted = c;
       right = h;
@@ -70,21 +68,21 @@ module _ {t : List ℕ} {m : Memory} {p : Position} {i : ℕ} (ready : VisitRead
   own = ready.right i (in-own t ready.formed i)
 
   -- its high is below the test
-  pub visit-below : {γ : ℕ} {r : Tried} → r.answer ≡ false → get_or m.highs i 0 < γ → VisitedBy t (tree_at t i) γ m m r
-  visit-below {γ} {r} a h =
+  pub visit-below : {γ : ℕ} → get_or m.highs i 0 < γ → VisitedBy t (tree_at t i) γ m m false
+  visit-below {γ} h =
       done-as (test-is-below (valuation t) γ (so_far m) (tree_at t i) (omega (arith, own.high)))
-      (stay-done false r a ready.counted ready.right)
+      (stay-done false ready.counted ready.right)
 
   -- its low is not
-  pub visit-not-below : {γ : ℕ} {r : Tried} → r.answer ≡ true → γ ≤ get_or m.highs i 0 → γ ≤ get_or m.lows i 0
-      → VisitedBy t (tree_at t i) γ m m r
-  visit-not-below {γ} {r} a h l =
+  pub visit-not-below : {γ : ℕ} → γ ≤ get_or m.highs i 0 → γ ≤ get_or m.lows i 0
+      → VisitedBy t (tree_at t i) γ m m true
+  visit-not-below {γ} h l =
       done-as
       (test-is-not-below (valuation t) γ (so_far m) (tree_at t i) (omega (arith, own.high)) (omega (arith, own.low)))
-      (stay-done true r a ready.counted ready.right)
+      (stay-done true ready.counted ready.right)
 
   -- neither: it is entered
-  pub visit-open : {γ : ℕ} {m' : Memory} {r : Tried} → γ ≤ get_or m.highs i 0 → get_or m.lows i 0 < γ
+  pub visit-open : {γ : ℕ} {m' : Memory} {r : Bool} → γ ≤ get_or m.highs i 0 → get_or m.lows i 0 < γ
       → Entered t (tree_at t i) γ m m' r → VisitedBy t (tree_at t i) γ m m' r
   visit-open {γ} h l d =
       done-as
@@ -113,15 +111,15 @@ module _ {t : List ℕ} {m : Memory} {p : Position} {i : ℕ} (ready : VisitRead
         }
 
     -- it is evaluated, and its score is both of its bounds
-    module _ (m' : Memory) (r : Tried) (v : ℕ) (s : v ≡ valuation t i) (n : m'.leaves ≡ m.leaves + 1)
-        (e : m'.evaluated ≡ set m.evaluated i 1) (o : m'.order ≡ set m.order m.leaves i)
-        (ls : m'.lows ≡ set m.lows i v) (hs : m'.highs ≡ set m.highs i v) (a : r.answer ≡ leb γ v) where
+    module _ (m' : Memory) (v : ℕ) (s : v ≡ valuation t i)
+        (all : progress_of m' ≡ evaluate_all (progress_of m) (i ∷ [])) (ls : m'.lows ≡ set m.lows i v)
+        (hs : m'.highs ≡ set m.highs i v) where
       fits : m.leaves < length m.order
       fits = omega (arith, next_fits t (ready-listable ready) leaf-evaluable, ready.room.order)
 
       listed : so_far m' ≡ so_far m ++ (i ∷ [])
       listed =
-          (leaf-evaluated t m m' i p.depth ready.room ready.counted leaf-evaluable (ready-listable ready) n e o
+          (leaf-evaluated t m m' i p.depth ready.room ready.counted leaf-evaluable (ready-listable ready) all
           fits).listed
 
       leaf-bounded : Bounded t m' i
@@ -136,16 +134,16 @@ module _ {t : List ℕ} {m : Memory} {p : Position} {i : ℕ} (ready : VisitRead
                 (get_or-set_same m.highs i v 0 (omega (arith, ready.inside, ready.room.highs)) ∙ s);
           }
 
-      leaf-entered : Done t (leaf i) (opened i (leb γ (valuation t i))) m m' r
+      leaf-entered : Done t (leaf i) (opened i (leb γ (valuation t i))) m m' (leb γ v)
       leaf-entered =
           record {
-            answer = a ∙ ap (leb γ) s;
+            answer = ap (leb γ) s;
             evaluated =
                 leaf-evaluated t m m' i p.depth ready.room ready.counted leaf-evaluable (ready-listable ready)
-                n e o fits;
+                all fits;
             counted =
-                leaf-counted t m m' i p.depth ready.room ready.counted leaf-evaluable (ready-listable ready) n
-                e o fits;
+                leaf-counted t m m' i p.depth ready.room ready.counted leaf-evaluable (ready-listable ready)
+                all fits;
             right = λ k x. subst (Bounded t m') (sym x) leaf-bounded;
             others = λ k x.
                 record {
@@ -155,57 +153,56 @@ module _ {t : List ℕ} {m : Memory} {p : Position} {i : ℕ} (ready : VisitRead
                 };
           }
 
-      pub visit-leaf : VisitedBy t (tree_at t i) γ m m' r
+      pub visit-leaf : VisitedBy t (tree_at t i) γ m m' (leb γ v)
       visit-leaf =
-          visit-open h l (subst (λ T. Done t T (entered_test (valuation t) γ (so_far m) T) m m' r) (sym is_leaf)
+          visit-open h l
+          (subst (λ T. Done t T (entered_test (valuation t) γ (so_far m) T) m m' (leb γ v)) (sym is_leaf)
           leaf-entered)
 
 -- what a look at node i gives, by what it saw
-module _ (t : List ℕ) (i γ : ℕ) (m : Memory) (m' : ℕ → Memory) (s : Seen) where
-  -- a node that was not entered
-  pub looked-answer : (r : Tried) → s ≡ Answered r → VisitedBy t (tree_at t i) γ m (m' r.leaves) r
-      → Looked t i γ m m' s
-  looked-answer r e p = subst (Looked t i γ m m') (sym e) p
+module _ (t : List ℕ) (i γ : ℕ) (m m' : Memory) (s : Option Bool) (l : Looked t i γ m m' s) where
+  -- the node was answered
+  pub looked-visited : (r : Bool) → s ≡ Some r → VisitedBy t (tree_at t i) γ m m' r
+  looked-visited r e = subst (Looked t i γ m m') e l
 
-  module _ (l : Looked t i γ m m' s) where
-    -- the node was answered
-    pub looked-visited : (r : Tried) → s ≡ Answered r → VisitedBy t (tree_at t i) γ m (m' r.leaves) r
-    looked-visited r e = subst (Looked t i γ m m') e l
+  -- the node is open, and ready to be entered
+  module _ (e : s ≡ None) where
+    open-known : (m' ≡ m) × Undecided t m i γ
+    open-known = subst (Looked t i γ m m') e l
 
-    -- the node is open, and ready to be entered
-    module _ (e : s ≡ Open) where
-      open-known : (m' m.leaves ≡ m) × Undecided t m i γ
-      open-known = subst (Looked t i γ m m') e l
+    pub open-ready : {p : Position} → VisitReady t m i p → VisitReady t m' i p × (0 < child_count t i)
+    open-ready {p} ready =
+        let k = open-known in
+        (subst (λ x. VisitReady t x i p) (sym k.0) ready, k.1.non_empty)
 
-      pub open-ready : {p : Position} → VisitReady t m i p → VisitReady t (m' m.leaves) i p × (0 < child_count t i)
-      open-ready {p} ready =
-          let k = open-known in
-          (subst (λ x. VisitReady t x i p) (sym k.0) ready, k.1.non_empty)
+    pub open-visited : {p : Position} {m'' : Memory} {r : Bool} → VisitReady t m i p
+        → Entered t (tree_at t i) γ m' m'' r → VisitedBy t (tree_at t i) γ m m'' r
+    open-visited {p} {m''} {r} ready d =
+        let k = open-known in
+        visit-open ready k.1.high k.1.low (subst (λ x. Entered t (tree_at t i) γ x m'' r) k.0 d)
 
-      pub open-visited : {p : Position} {m'' : Memory} {r : Tried} → VisitReady t m i p
-          → Entered t (tree_at t i) γ (m' m.leaves) m'' r
-          → VisitedBy t (tree_at t i) γ m m'' r
-      open-visited {p} {m''} {r} ready d =
-          let k = open-known in
-          visit-open ready k.1.high k.1.low
-          (subst (λ x. Entered t (tree_at t i) γ x m'' r) k.0 d)
-
--- a test that left the same arrays and gave the same
-pub visited-same : {t : List ℕ} {T : Tree} (γ : ℕ) {m : Memory} {e e' o o' l l' h h' : List ℕ} {r r' : Tried}
-    → e ≡ e' → o ≡ o' → l ≡ l' → h ≡ h' → r ≡ r' → VisitedBy t T γ m (memory r'.leaves e' o' l' h') r'
-    → VisitedBy t T γ m (memory r.leaves e o l h) r
-visited-same γ p z q u v x = rw (p, z, q, u, v) x
+-- a test that left the same memory and gave the same
+pub visited-same : {t : List ℕ} {T : Tree} (γ : ℕ) {m m' m'' : Memory} {r r' : Bool} → m' ≡ m'' → r ≡ r'
+    → VisitedBy t T γ m m'' r' → VisitedBy t T γ m m' r
+visited-same γ e u x = rw (e, u) x
 
 -- an inner node: its children were tested, and it gets the best of their bounds
 module _ {t : List ℕ} {i first end : ℕ} (family : Family t i first end) {m : Memory} {p : Position}
-    (ready : VisitReady t m i p) (some : first < end) {γ : ℕ} {m' : Memory} (r : Tried)
-    (room : MemoryRoom (frames t) m') (left : Left t p.side γ first end m m' r.answer) (l h : ℕ)
-    (ls : l ≡ best_in p.side (λ k. get_or m'.lows k 0) first (end - (first + 1)))
-    (hs : h ≡ best_in p.side (λ k. get_or m'.highs k 0) first (end - (first + 1))) where
+    (ready : VisitReady t m i p) (some : first < end) {γ : ℕ} {m' : Memory} (r : Bool)
+    (room : MemoryRoom (frames t) m') (left : Left t p.side γ first end m m' r) where
   node-inner : tree_at t i ≡ inner i p.side (children_up_to t first end)
   node-inner = tree-kids family p.side (ap (λ p. p.side) ready.positioned) some
 
-  -- the memory afterwards
+  -- the node's bounds, and the memory afterwards
+  abbrev best-of : List ℕ → ℕ
+  best-of b = best_in p.side (λ k. get_or b k 0) first (end - (first + 1))
+
+  abbrev l : ℕ
+  l = best-of m'.lows
+
+  abbrev h : ℕ
+  h = best-of m'.highs
+
   abbrev after : Memory
   after = memory m'.leaves m'.evaluated m'.order (set m'.lows i l) (set m'.highs i h)
 
@@ -215,14 +212,14 @@ module _ {t : List ℕ} {i first end : ℕ} (family : Family t i first end) {m :
       (subst (λ j. InChildren j (children_up_to t first end)) e x)
 
   -- the best of the children's bounds is the node's
-  best-bound : (x : ℕ) (f : ℕ → ℕ) (v : ℕ)
-      → ((k : ℕ) → first ≤ k → k < end → f k ≡ minimax (known (valuation t) (among (so_far m')) x) (tree_at t k))
-      → v ≡ best_in p.side f first (end - (first + 1))
-      → v ≡ minimax (known (valuation t) (among (so_far m')) x) (inner i p.side (children_up_to t first end))
-  best-bound x f v same b =
+  best-bound : (x : ℕ) (b : List ℕ)
+      → ((k : ℕ) → first ≤ k → k < end
+      → get_or b k 0 ≡ minimax (known (valuation t) (among (so_far m')) x) (tree_at t k))
+      → best-of b ≡ minimax (known (valuation t) (among (so_far m')) x) (inner i p.side (children_up_to t first end))
+  best-bound x b same =
       let μ = known (valuation t) (among (so_far m')) x in
       let n = end - (first + 1) in
-      b ∙ best-same p.side f (λ k. minimax μ (tree_at t k)) first n (λ k a c. same k a (omega arith))
+      best-same p.side (λ k. get_or b k 0) (λ k. minimax μ (tree_at t k)) first n (λ k a c. same k a (omega arith))
       ∙ sym (minimax-best μ p.side (tree_at t) first n)
 
   child-bounded : (k : ℕ) → first ≤ k → k < end → Bounded t m' k
@@ -234,11 +231,11 @@ module _ {t : List ℕ} {i first end : ℕ} (family : Family t i first end) {m :
         low =
             rw node-inner
             (get_or-set_same m'.lows i l 0 (omega (arith, family.inside, room.lows))
-            ∙ best-bound least (λ k. get_or m'.lows k 0) l (λ k a b. (child-bounded k a b).low) ls);
+            ∙ best-bound least m'.lows (λ k a b. (child-bounded k a b).low));
         high =
             rw node-inner
             (get_or-set_same m'.highs i h 0 (omega (arith, family.inside, room.highs))
-            ∙ best-bound greatest (λ k. get_or m'.highs k 0) h (λ k a b. (child-bounded k a b).high) hs);
+            ∙ best-bound greatest m'.highs (λ k a b. (child-bounded k a b).high));
       }
 
   below-bounded : (k : ℕ) → InChildren k (children_up_to t first end) → Bounded t after k

@@ -1,2 +1,3 @@
 -- Definitions that building blocks alone cite.
+pub mod Bounds
 pub mod Memory

@@ -23,15 +23,25 @@ use Rattle.plain.proofs.Pass.{better-worst, score_after, marks_after, scores-all
 abbrev pub Gives : (t : List ℕ) (i : ℕ) (e e' : List ℕ) (r : ℕ) → Type 0
 Gives t i e e' r = (r ≡ minimax (valuation t) (tree_at t i)) × (e' ≡ mark_all e (leaves (tree_at t i)))
 
--- at the head of the loop over the children of node i, from `first` up to `end`: child k is next, e₀ were the marks and
--- e are, v is the score; what the children that are left make of them is what the turn is to give
-pub record TurnLoop (t : List ℕ) (s : Side) (i : ℕ) (e₀ : List ℕ) (first end : ℕ) (e : List ℕ) (v k : ℕ) : Type 0 where
-  pub from : first ≤ k
-  pub to : k ≤ end
+-- behind the last child of node i
+abbrev children_end : (t : List ℕ) (i : ℕ) → ℕ
+children_end t i = first_child t i + child_count t i
+
+-- at the head of the loop over the children of node i: child k is next, e₀ were the marks and e are, v is the score;
+-- what the children that are left make of them is what the turn is to give
+pub record TurnLoop (t : List ℕ) (s : Side) (i : ℕ) (e₀ e : List ℕ) (v k : ℕ) : Type 0 where
+  pub from : first_child t i ≤ k
+  pub to : k ≤ children_end t i
   pub kept : length e ≡ length e₀
   pub unvisited : Unvisited t e i k
   pub gives :
-      Gives t i e₀ (marks_after (tree_at t) e k (end - k)) (score_after (tree_at t) (valuation t) s v k (end - k))
+      Gives t i e₀ (marks_after (tree_at t) e k (children_end t i - k))
+      (score_after (tree_at t) (valuation t) s v k (children_end t i - k))
+
+-- the child that is next
+pub turn-child : {t : List ℕ} {s : Side} {i : ℕ} {e₀ e : List ℕ} {v k : ℕ} → TurnLoop t s i e₀ e v k
+    → k < first_child t i + child_count t i → ChildOf t i k
+turn-child h l = record { from = h.from; to = l }
 
 module _ (t e : List ℕ) (s : Side) (i left : ℕ) (r : Ready t e s i left) where
   -- a leaf may be evaluated
@@ -54,13 +64,13 @@ module _ (t e : List ℕ) (s : Side) (i left : ℕ) (r : Ready t e s i left) whe
   leaf-gives e' v z p q = rw (tree-leaf t r.searchable.formed i r.searchable.inside z) (p, q)
 
   -- before the first child all is to come
-  pub turn-starts : (first end v : ℕ) → 0 < child_count t i → first ≡ first_child t i → end ≡ first + child_count t i
-      → v ≡ worst s → TurnLoop t s i e first end e v first
-  turn-starts first end v c f l w =
+  pub turn-starts : (first v : ℕ) → 0 < child_count t i → first ≡ first_child t i → v ≡ worst s
+      → TurnLoop t s i e e v first
+  turn-starts first v c f w =
       let x = r.searchable in
       let n = child_count t i - 1 in
       let m : child_count t i ≡ suc n = omega arith in
-      let b : end - first ≡ suc n = omega arith in
+      let b : children_end t i - first ≡ suc n = omega arith in
       let own = tree-inner t x.formed i n x.inside m in
       let side = ap (λ p. p.side) x.positioned in
       let score = value-score (valuation t) (tree_at t i)
@@ -104,18 +114,18 @@ module _ (t e : List ℕ) (s : Side) (i left : ℕ) (r : Ready t e s i left) whe
         shallow = r.shallow;
       }
 
-module _ (t e : List ℕ) (s : Side) (i left : ℕ) (r : Ready t e s i left) (first end : ℕ) (e₁ : List ℕ) (v k : ℕ)
-    (h : TurnLoop t s i e first end e₁ v k) where
+module _ (t e : List ℕ) (s : Side) (i left : ℕ) (r : Ready t e s i left) (e₁ : List ℕ) (v k : ℕ)
+    (h : TurnLoop t s i e e₁ v k) where
   -- after the turn of a child the children behind it are to come
-  pub turn-goes-on : ChildOf t i k → k < end → (e₂ : List ℕ) (x w : ℕ) → Gives t k e₁ e₂ x → w ≡ better s v x
-      → TurnLoop t s i e first end e₂ w (k + 1)
+  pub turn-goes-on : ChildOf t i k → (e₂ : List ℕ) (x w : ℕ) → Gives t k e₁ e₂ x → w ≡ better s v x
+      → TurnLoop t s i e e₂ w (k + 1)
   unfolding score_after marks_after
-  turn-goes-on c l e₂ x w d b =
-      let m : end - k ≡ suc (end - (k + 1)) = omega arith in
+  turn-goes-on c e₂ x w d b =
+      let m : children_end t i - k ≡ suc (children_end t i - (k + 1)) = omega (arith, c.to) in
       let z = r.searchable in
       record {
         from = omega (arith, h.from);
-        to = omega arith;
+        to = omega (arith, c.to);
         kept = ap length d.1 ∙ mark_all-length e₁ _ ∙ h.kept;
         unvisited =
             younger-wait t z.formed i z.inside k e₁ e₂ _ c (leaves_in (tree_at t k)) h.unvisited d.1;
@@ -123,6 +133,6 @@ module _ (t e : List ℕ) (s : Side) (i left : ℕ) (r : Ready t e s i left) (fi
       }
 
   -- after the last child the turn is given
-  pub turn-ends : end ≤ k → Gives t i e e₁ v
+  pub turn-ends : first_child t i + child_count t i ≤ k → Gives t i e e₁ v
   unfolding score_after marks_after
-  turn-ends l = let z : end - k ≡ 0 = omega (arith, h.to) in rw z at h.gives
+  turn-ends l = let z : children_end t i - k ≡ 0 = omega (arith, h.to) in rw z at h.gives

@@ -1,9 +1,8 @@
 -- The steps of a whole search: Max's turn at the root gives the minimax value, and its marks are those of all leaves.
-use Rattle.prelude.proofs.{ℕ, ◌≤◌, arith, ◌≡◌, ap, ◌∙◌, List, [], ◌∷◌, length, ℤ}
+use Rattle.prelude.proofs.{ℕ, ◌≤◌, arith, ◌≡◌, ap, ◌∙◌, List, [], ◌∷◌, length, ℤ, Ok}
 use Rattle.gametree.specs.declared.Side.TheVariants.{Max}
 use Rattle.gametree.specs.{greatest, minimax, bound_move, flag}
 use Rattle.gametree_theory.proofs.Theorems.{value-score, all-deciding}
-use Rattle.table.specs.declared.Checked.TheVariants.{Nodes}
 use Rattle.table.specs.{max_depth, frames, tree, valuation, value_of, Accepted}
 use Rattle.table.proofs.Asked.{answer-nodes}
 use Rattle.table.proofs.Acceptance.{accepted-stated, accepted-formed}
@@ -17,7 +16,7 @@ use Rattle.certificate_write.proofs.Searchable.{searchable-root}
 use Rattle.plain.specs.{all_leaves, plain_found, Ready}
 
 -- with nodes for an answer to the questions the search may be run
-pub may-run : (t : List ℕ) (e c n : ℕ) → Nodes n ≡ asked t (e ∷ c ∷ [])
+pub may-run : (t : List ℕ) (e c n : ℕ) → Ok n ≡ asked t (e ∷ c ∷ [])
     → Accepted t × ((frames t ≤ e) × (frames t ≤ c))
 may-run t e c n h =
     let p = passed-room t (e ∷ c ∷ []) (answer-nodes (frames t) n (search_rejection t (e ∷ c ∷ [])) h).0 in

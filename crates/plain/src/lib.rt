@@ -15,40 +15,34 @@ ghost use Rattle.plain.specs.Outcome.{all_leaves, plain_found, plain_outcome};
 ghost use Rattle.plain.specs.Engine.Ready.{Ready};
 
 use certificate_bounds::{clear, evaluate};
-use certificate_write::{ask, lesser, write_certificate};
-use gametree::{Side, better};
+use certificate_write::{ask, write_certificate};
+use gametree::Side;
 use table::{
-    Checked, GREATEST, LEAST, MAX_DEPTH, Rejection, child_count, child_side, first_child,
-    frame_count, value,
+    GREATEST, LEAST, MAX_DEPTH, Rejection, child_count, child_side, first_child, frame_count, value,
 };
 
 // The greatest depth, from which the remaining depth counts down.
 const DEPTH: u32 = MAX_DEPTH as u32;
 
 // What the plain engine finds: the minimax value, and the first root move that reaches it (0 for a leaf).
-#[derive(Clone, Copy)]
+#[derive(Clone, Copy, Debug, PartialEq, Eq)]
 pub struct PlainResult {
     pub value: i16,
     pub root_move: usize,
 }
 
-// The answer of a call: what was found, or the first question that got a "no".
-#[derive(Clone, Copy)]
-pub enum PlainAnswer {
-    Found(PlainResult),
-    Rejected(Rejection),
-}
-
 // Minimax of the whole tree: questions 1 to 10, then the value and the root move; the marks of all leaves and the
 // certificate (01: the proof) go into the buffers.
-pub fn search(table: &[u8], evaluated: &mut [u8], certificate: &mut [u8]) -> PlainAnswer
+pub fn search(
+    table: &[u8],
+    evaluated: &mut [u8],
+    certificate: &mut [u8],
+) -> Result<PlainResult, Rejection>
     ensures { result leaving lent evaluated.new certificate.new []
         ≡ plain_outcome table.now (lent evaluated.old certificate.old []) }
 {
-    match ask(table, lesser(evaluated.len(), certificate.len())) {
-        Checked::Nodes(_) => PlainAnswer::Found(run(table, evaluated, certificate)),
-        Checked::Rejected(rejection) => PlainAnswer::Rejected(rejection),
-    }
+    ask(table, evaluated.len().min(certificate.len()))?;
+    Ok(run(table, evaluated, certificate))
 }
 
 // The search of an accepted table, into buffers with an entry per node.
@@ -69,7 +63,8 @@ fn run(table: &[u8], evaluated: &mut [u8], certificate: &mut [u8]) -> PlainResul
 }
 
 // Max's turn at a node: the greatest of what the turn of the side that moves there gives for each child. `left` is how
-// many levels may still follow below the node; it falls at every call.
+// many levels may still follow below the node; it falls at every call. (The scope asks for two functions that call each
+// other, one for each side.)
 #[cycle(max_turn_min_turn)]
 fn max_turn(table: &[u8], evaluated: &mut [u8], node: usize, left: u32) -> u32
     requires { Ready table.now evaluated.old Side.Max node left }
@@ -82,16 +77,14 @@ fn max_turn(table: &[u8], evaluated: &mut [u8], node: usize, left: u32) -> u32
         return evaluate(table, evaluated, node, DEPTH - left);
     }
     let mut greatest = LEAST;
-    let mut child = first_child(table, node);
-    let last = child + (count - 1);
+    let first = first_child(table, node);
     let below = left - 1;
-    while child <= last {
+    for child in first..first + count {
         let answer = match child_side(table, child, Side::Max) {
             Side::Max => max_turn(table, evaluated, child, below),
             Side::Min => min_turn(table, evaluated, child, below),
         };
-        greatest = better(Side::Max, greatest, answer);
-        child += 1;
+        greatest = greatest.max(answer);
     }
     greatest
 }
@@ -109,16 +102,14 @@ fn min_turn(table: &[u8], evaluated: &mut [u8], node: usize, left: u32) -> u32
         return evaluate(table, evaluated, node, DEPTH - left);
     }
     let mut least = GREATEST;
-    let mut child = first_child(table, node);
-    let last_child = child + (count - 1);
+    let first = first_child(table, node);
     let left_below = left - 1;
-    while child <= last_child {
+    for child in first..first + count {
         let answer = match child_side(table, child, Side::Min) {
             Side::Max => max_turn(table, evaluated, child, left_below),
             Side::Min => min_turn(table, evaluated, child, left_below),
         };
-        least = better(Side::Min, least, answer);
-        child += 1;
+        least = least.min(answer);
     }
     least
 }

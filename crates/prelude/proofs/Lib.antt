@@ -4,6 +4,8 @@ pub use mathlib.Core.Logic.{inl, inr, ⊎_elim, ◌↔◌, ◌⊎◌}
 pub use mathlib.Core.Bool.{Bool, true, false, cond, ◌&&◌, not, ◌||◌, and-false, and-eq-true_iff, and-true, or-false}
 pub use mathlib.Core.Bool.{or_assoc, and_assoc, or-true}
 pub use mathlib.Core.Option.{Option, none, some}
+pub use Rattle.std.specs.declared.result.Result.{Result}
+pub use Rattle.std.specs.declared.result.Result.TheVariants.{Ok, Err}
 pub use mathlib.Core.List.{List, [], ◌∷◌, ◌++◌, map, append_assoc, append-nil, map-id, foldr, foldr-append, map-append}
 pub use Prim.Native.Nat.{ℕ, suc, ◌+◌, ◌-◌, ◌≤◌, ◌<◌, max, zero, ◌*◌, ◌/◌, ◌%◌, ◌^◌, min, suc-le-suc}
 pub use native.Mathlib.Nat.{le_of_eq, le_trans, add-sub_cancel_left, mod-lt, div-add-mod', lt_of_le_of_lt, le_refl}

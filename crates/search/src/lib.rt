@@ -11,10 +11,10 @@ ghost use Rattle.methods.specs.Rules.{evaluated_by, beyond};
 ghost use Rattle.methods.specs.Outcome.{answer_by, lent, given_by, search_outcome};
 ghost use Rattle.methods.specs.Engine.Certified.{certified_flags};
 
-use certificate_write::{ask, lesser};
+use certificate_write::ask;
 use methods::certify;
 pub use methods::{Answer, Findings, Method, Spent};
-use table::{Checked, MAX_NODES};
+use table::MAX_NODES;
 use table_positions::fill;
 
 // The search of the whole tree by a method: questions 1 to 10, then the value, the root move and the counts of
@@ -31,10 +31,10 @@ pub fn search(
         ≡ search_outcome method table.now
         (lent evaluated.old certificate.old order.old) }
 {
-    let shortest = lesser(lesser(evaluated.len(), certificate.len()), order.len());
+    let shortest = evaluated.len().min(certificate.len()).min(order.len());
     match ask(table, shortest) {
-        Checked::Nodes(_) => run(method, table, evaluated, certificate, order),
-        Checked::Rejected(rejection) => Answer::Rejected(rejection),
+        Ok(_) => run(method, table, evaluated, certificate, order),
+        Err(rejection) => Answer::Rejected(rejection),
     }
 }
 

@@ -1,10 +1,9 @@
--- What a list holds after some of its entries have been replaced, and the loop that replaces them.
-use Rattle.prelude.proofs.{ℕ, zero, suc, ◌+◌, ◌-◌, ◌≤◌, ◌<◌, arith, add-one, ◌≡◌, refl, sym, ap, ◌∙◌, List, [], ◌∷◌}
-use Rattle.prelude.proofs.{◌++◌, length, set, drop, replicate, length-set, drop-set-lt}
+-- What a list holds after some of its entries have been replaced.
+use Rattle.prelude.proofs.{ℕ, zero, suc, ◌+◌, ◌≤◌, arith, add-one, ◌≡◌, refl, ap, ◌∙◌, List, [], ◌∷◌}
+use Rattle.prelude.proofs.{◌++◌, length, set, drop, replicate, drop-set-lt}
 use Rattle.sss_states.specs.declared.State.{State}
-use Rattle.sss_turns.specs.declared.Update.{Update}
 use Rattle.sss_states.specs.{blank, stored}
-use Rattle.sss_turns.specs.{entry_in, updated, blanks}
+use Rattle.sss_turns.specs.{updated, blanks}
 
 -- entries from n on are kept
 pub stored-drop : {A : Type 0} (f : ℕ → A) (n i c : ℕ) (xs : List A) → i + c ≤ n → drop n (stored f i c xs) ≡ drop n xs
@@ -27,39 +26,3 @@ blank-first zero ls h = refl
 blank-first (suc n) [] h = absurd (omega arith)
 blank-first (suc n) (y ∷ ls) h =
     stored_past blank blank 0 n ls ∙ ap (λ k. blank ∷ k) (blank-first n ls (omega arith))
-
--- the loop has replaced the entries before `at`: those from `at` on give the updated list
-pub record Replacing (u : Update) (l ls : List State) (at : ℕ) : Type 0 where
-  pub from : u.first ≤ at
-  pub to : at ≤ u.first + u.count
-  pub same : stored (entry_in u.content) at (u.first + u.count - at) ls ≡ updated u l
-  pub size : length ls ≡ length l
-
-module _ (u : Update) (l : List State) where
-  pub replacing-start : Replacing u l l u.first
-  replacing-start =
-      let n : u.first + u.count - u.first ≡ u.count = omega arith in
-      record {
-        from = omega arith;
-        to = omega arith;
-        same = ap (λ k. stored (entry_in u.content) u.first k l) n;
-        size = refl;
-      }
-
-  module _ (ls : List State) (at : ℕ) (r : Replacing u l ls at) where
-    pub replacing-on : at < u.first + u.count → Replacing u l (set ls at (entry_in u.content at)) (at + 1)
-    unfolding stored
-    replacing-on h =
-        let n : u.first + u.count - at ≡ suc (u.first + u.count - (at + 1)) = omega arith in
-        record {
-          from = omega (arith, r.from);
-          to = omega arith;
-          same = sym (ap (λ k. stored (entry_in u.content) at k ls) n) ∙ r.same;
-          size = length-set ls at (entry_in u.content at) ∙ r.size;
-        }
-
-    pub replacing-end : u.first + u.count ≤ at → ls ≡ updated u l
-    unfolding stored
-    replacing-end h =
-        let n : u.first + u.count - at ≡ 0 = omega arith in
-        sym (ap (λ k. stored (entry_in u.content) at k ls) n) ∙ r.same

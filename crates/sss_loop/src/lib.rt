@@ -4,56 +4,44 @@
 
 mod list;
 
-ghost use Rattle.std.specs.Prelude.{◌≡◌};
-ghost use Rattle.sss_turns.specs.Engine.Turn.{going};
+ghost use Rattle.certificate_bounds.specs.Engine.Evaluations.{progress_of, SameBuffers};
+ghost use Rattle.sss_states.specs.Engine.Fronts.{SameFront};
 ghost use Rattle.sss_loop.specs.Engine.Driven.{Prepared, Driven, PreparedOwn, DrivenOwn};
 
+use certificate_bounds::Evaluations;
 use list::{replace, take};
-use sss_states::{State, blank};
-use sss_turns::{Run, Stage, next};
+use sss_states::{Front, State, blank};
+use sss_turns::{Run, next};
 use table::MAX_NODES;
 
 // A run over the lent list: the best entry is taken and replaced, until the SOLVED root is taken or the allowance is
 // spent.
 pub fn drive(
     mut run: Run,
-    table: &[u8],
-    positions: &[u32],
-    front: &mut [u32],
+    front: &mut Front<'_>,
     list: &mut [State],
-    evaluated: &mut [u8],
-    order: &mut [u16],
+    evaluations: &mut Evaluations<'_>,
 ) -> Run
-    requires { Prepared table.now positions.now front.old list.old evaluated.old order.old run }
-    ensures { Driven table.now front.old list.old evaluated.old
-        order.old run (record {
-          front = front.new;
+    requires { Prepared front.old.table.now front.old.positions.now front.old.entries.now list.old
+        (progress_of evaluations.old) run }
+    ensures driven { Driven front.old.table.now front.old.entries.now list.old (progress_of evaluations.old) run
+        (record {
+          front = front.new.entries.now;
           list = list.new;
-          marks = evaluated.new;
-          order = order.new;
+          progress = progress_of evaluations.new;
           run = result;
         }) }
+    ensures same_front { SameFront front.old front.new }
+    ensures same_buffers { SameBuffers evaluations.old evaluations.new }
 {
     replace(list, run.update);
-    while goes_on(run) {
+    // How many turns there are is known when the last one ends.
+    while run.goes_on() {
         let entry = take(list, run.best);
-        let after = next(run, entry, table, positions, front, evaluated, order);
-        replace(list, after.update);
-        run = after;
+        run = next(run, entry, front, evaluations);
+        replace(list, run.update);
     }
     run
-}
-
-// Does the run go on?
-fn goes_on(run: Run) -> bool
-    ensures { result ≡ going run.stage }
-{
-    let stage = run.stage;
-    match stage {
-        Stage::Going => true,
-        Stage::Finished(_) => false,
-        Stage::Spent(_) => false,
-    }
 }
 
 // A run over a front and a list of its own.
@@ -61,17 +49,18 @@ pub fn drive_own(
     run: Run,
     table: &[u8],
     positions: &[u32],
-    evaluated: &mut [u8],
-    order: &mut [u16],
+    evaluations: &mut Evaluations<'_>,
 ) -> Run
-    requires { PreparedOwn table.now positions.now evaluated.old order.old run }
-    ensures { DrivenOwn table.now evaluated.old order.old run
-        evaluated.new order.new result }
+    requires { PreparedOwn table.now positions.now (progress_of evaluations.old) run }
+    ensures driven { DrivenOwn table.now (progress_of evaluations.old) run (progress_of evaluations.new) result }
+    ensures same_buffers { SameBuffers evaluations.old evaluations.new }
 {
-    let entry = blank();
-    let mut front = [0u32; MAX_NODES];
-    let mut list = [entry; MAX_NODES];
-    drive(
-        run, table, positions, &mut front, &mut list, evaluated, order,
-    )
+    let mut entries = [0u32; MAX_NODES];
+    let mut list = [blank(); MAX_NODES];
+    let mut front = Front {
+        table,
+        positions,
+        entries: &mut entries,
+    };
+    drive(run, &mut front, &mut list, evaluations)
 }

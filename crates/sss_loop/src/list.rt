@@ -20,26 +20,22 @@ pub fn replace(list: &mut [State], update: Update)
     requires { Within update (length list.old) }
     ensures { list.new ≡ updated update list.old }
 {
-    let content = update.content;
-    let mut at = update.first;
-    let end = at + update.count;
-    while at < end {
-        list[at] = entry_in(content, at);
-        at += 1;
+    for node in update.first..update.first + update.count {
+        list[node] = entry_in(update.content, node);
     }
 }
 
 // The new entry of a node.
-fn entry_in(content: Content, node: usize) -> State
+fn entry_in(content: Option<Content>, node: usize) -> State
     requires { node < max_nodes }
     ensures { result ≡ entry_in content node }
 {
     match content {
-        Content::Own { status, merit } => State {
+        Some(content) => State {
             node: node as u16,
-            status,
-            merit,
+            status: content.status,
+            merit: content.merit,
         },
-        Content::Blank => blank(),
+        None => blank(),
     }
 }

@@ -1,6 +1,6 @@
 -- The fall keeps the front sound, and each step up leaves what is still to be done.
-use Rattle.prelude.proofs.{ℕ, zero, suc, ◌+◌, ◌-◌, ◌/◌, ◌%◌, ◌≤◌, ◌<◌, arith, ◌≡◌, refl, sym, ◌∙◌, ap, ap₂, subst, ◌⊎◌}
-use Rattle.prelude.proofs.{inl, inr, true, false, cond, List, length, get_or, set, length-set}
+use Rattle.prelude.proofs.{ℕ, zero, suc, ◌+◌, ◌-◌, ◌/◌, ◌%◌, ◌≤◌, ◌<◌, arith, ◌≡◌, refl, sym, ◌∙◌, ap, subst, ◌⊎◌}
+use Rattle.prelude.proofs.{inl, inr, true, false, cond, List, length, get_or, length-set}
 use Rattle.gametree.specs.declared.Side.{Side}
 use Rattle.gametree.specs.declared.Side.TheVariants.{Max, Min}
 use Rattle.gametree.specs.{greatest}
@@ -8,6 +8,8 @@ use Rattle.lists.proofs.Choice.{cond_cases, clash}
 use Rattle.table.specs.{max_nodes, frames, first_child, child_count, parent_of, side_of, WellFormed, ChildOf}
 use Rattle.table.proofs.Next.{child-within}
 use Rattle.table.proofs.Parents.{parent-less}
+use Rattle.table_positions.specs.{parent_in}
+use Rattle.table_positions.proofs.Positions.{positioned-parent}
 use Rattle.sss_states.specs.{best_at, link_at, packed_entry, chosen_by_side, chosen_of, renewed, needs_refresh}
 use Rattle.sss_states.specs.{Refreshed}
 use Rattle.sss_states.specs.{refreshed, Sound, Fits, changed, Puttable, Putting}
@@ -21,15 +23,7 @@ abbrev pub LinkOf : List ℕ → ℕ → ℕ → Type 0
 LinkOf t p c = (c ≡ 0) ⊎ ChildOf t p c
 
 module _ (t w : List ℕ) (p : ℕ) where
-  -- the child that p goes down to: none of a leaf's, else by its side
-  pub chosen_none : child_count t p ≡ 0 → 0 ≡ chosen_of t w p
-  chosen_none e = rw e refl
-
-  pub chosen-some : (n : ℕ) → n ≡ child_count t p → (n ≡ 0 → ⊥) → (s : Side) (r : ℕ) → s ≡ side_of t p
-      → r ≡ chosen_by_side t w p s (suc (n - 1)) → r ≡ chosen_of t w p
-  chosen-some n e h s r q i =
-      let c : suc (n - 1) ≡ child_count t p = omega arith in i ∙ ap₂ (λ s c. chosen_by_side t w p s c) q c
-
+  -- the child that p goes down to is one of its children
   chosen_by : (s : Side) (n : ℕ) → child_count t p ≡ n → LinkOf t p (link_at w p)
       → LinkOf t p (chosen_by_side t w p s n)
   chosen_by s zero e o = inl refl
@@ -47,10 +41,10 @@ pub record Falling (t F : List ℕ) (γ : ℕ) (w₀ : List ℕ) (node : ℕ) (w
   pub same : refreshed at t γ w at ≡ refreshed node t γ w₀ node
   pub size : length w ≡ length w₀
 
--- what the code reads on a step up: the parent p, and the child that it goes down to
+-- what the code reads on a step up from node `at`: its parent p, and the child that p goes down to
 pub record Rises (t w : List ℕ) (at p : ℕ) : Type 0 where
+  pub is : p ≡ parent_of t at
   pub inside : p < frames t
-  pub less : p < at
   pub child : chosen_of t w p < frames t
   pub merit : best_at w (chosen_of t w p) ≤ greatest
 
@@ -134,38 +128,43 @@ module _ (t : List ℕ) (wf : WellFormed t) where
         cond_cases (λ (r : Refreshed). Sound t r.front × (r.top < frames t)) (needs_refresh w γ (suc k)) _ _
         (λ _. refreshed-keeps f (renewed t w p) p (renewed-sound w p o l) l) (λ _. (o, h))
 
+-- a step up is within the table
+pub rises : {t F w : List ℕ} {at p : ℕ} → Fits t F w → (0 < at) × (at < frames t) → p ≡ parent_in F at → Rises t w at p
+rises {t} {F} {w} {at} {p} f h e =
+    let q : p ≡ parent_of t at = e ∙ positioned-parent t F f.positions at h.1 in
+    let l = parent-less t at h.0 in
+    let i : p < frames t = omega (arith, h.1) in
+    let c = link-inside t f.formed i (chosen-link t w p (f.sound.links p i)) in
+    record { is = q; inside = i; child = c; merit = f.sound.merits _ (omega (arith, f.sound.room)) }
+
 module _ {t F : List ℕ} {γ : ℕ} {w₀ : List ℕ} {node : ℕ} {w : List ℕ} {at : ℕ} (f : Falling t F γ w₀ node w at) where
-  -- a step up is within the table
-  pub rises : {p : ℕ} → needs_refresh w γ at ≡ true → p ≡ parent_of t at → Rises t w at p
-  rises {p} e q =
-      let n = up t f.fits.formed γ w at e in
-      let l = parent-less t at (omega arith) in
-      let h : p < frames t = omega (arith, f.inside) in
-      let o = f.fits.sound in
-      let c = link-inside t f.fits.formed h (chosen-link t w p (o.links p h)) in
-      record { inside = h; less = omega arith; child = c; merit = o.merits _ (omega (arith, o.room)) }
+  -- a node below the merit has a parent
+  pub below-root : needs_refresh w γ at ≡ true → (0 < at) × (at < frames t)
+  below-root e = let n = up t f.fits.formed γ w at e in (omega arith, f.inside)
+
+  -- a step up is to a smaller number
+  pub rises-less : {p : ℕ} → needs_refresh w γ at ≡ true → p ≡ parent_of t at → p < at
+  rises-less e q = omega (arith, q, parent-less t at (below-root e).0)
 
   -- and leaves what is still to be done
-  pub falling-again : (p c b v : ℕ) → needs_refresh w γ at ≡ true → p ≡ parent_of t at → c ≡ chosen_of t w p
-      → b ≡ best_at w c
-      → v ≡ packed_entry b c → Falling t F γ w₀ node (set w p v) p
-  falling-again p c b v e q i j k =
-      let z : set w p v ≡ renewed t w p = ap (set w p)
-      (k ∙ ap₂ packed_entry j refl ∙ ap (λ x. packed_entry (best_at w x) x) i) in
-      let r = rises e q in
-      let wf = f.fits.formed in
-      record {
-        inside = r.inside;
+  pub falling-again : {p : ℕ} {w' : List ℕ} → needs_refresh w γ at ≡ true → p ≡ parent_of t at
+      → w' ≡ renewed t w (parent_of t at) → Falling t F γ w₀ node w' p
+  falling-again e q z =
+      let h = below-root e in
+      let l = parent-less t at h.0 in
+      let i : parent_of t at < frames t = omega (arith, h.1) in
+      rw (q, z) (record {
+        inside = i;
         fits = record {
-          formed = wf;
+          formed = f.fits.formed;
           positions = f.fits.positions;
-          sound = rw z (renewed-sound t wf w p f.fits.sound r.inside);
+          sound = renewed-sound t f.fits.formed w (parent_of t at) f.fits.sound i;
         };
-        same = rw (z, q) (sym (refreshed-step t wf γ w at e) ∙ f.same);
-        size = length-set w p v ∙ f.size;
-      }
+        same = sym (refreshed-step t f.fits.formed γ w at e) ∙ f.same;
+        size = length-set w (parent_of t at) _ ∙ f.size;
+      })
 
-  -- at the top nothing is
+  -- and the end leaves nothing
   pub refreshed-top : needs_refresh w γ at ≡ false → (at ≡ (refreshed node t γ w₀ node).top)
       × (w ≡ (refreshed node t γ w₀ node).front)
   refreshed-top e =

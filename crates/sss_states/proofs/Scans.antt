@@ -1,103 +1,76 @@
 -- The loops over the front: the leftmost best of some children, the fall, and the way down.
 use Rattle.prelude.proofs.{ℕ, zero, suc, ◌+◌, ◌-◌, ◌*◌, ◌/◌, ◌≤◌, ◌<◌, arith, dec_le, ◌≡◌, refl, sym, ◌∙◌, ap, inl, inr}
-use Rattle.prelude.proofs.{List, ltb, length, get_or, eq-eqb, ne_eqb}
+use Rattle.prelude.proofs.{List, [], ◌∷◌, ◌⊎◌, max, leb, length, get_or, eq-eqb, ne_eqb, lt-ltb, lt-leb, le-leb}
+use Rattle.std.specs.List.{between, fold, position, position_or_len}
+use Rattle.std.specs.Option.{unwrap_or}
+use Rattle.std.proofs.lemmas.List.Edits.{length-between, get_or-between}
+use Rattle.std.proofs.lemmas.List.Sums.{position_or_len_is}
 use Rattle.table.specs.{max_nodes, frames, WellFormed}
 use Rattle.table.proofs.Next.{child-within, child-later}
-use Rattle.sss_states.specs.{best_at, link_at, leftmost_best, needs_refresh, descended, Sound, Fits, Attained}
-use Rattle.sss_states.specs.{GreatestEntry, FirstFrom}
-use Rattle.sss_states.proofs.Ways.{leftmost-same}
+use Rattle.sss_states.specs.{best_at, link_at, leftmost_best, descended, Sound, Fits}
+use Rattle.sss_states.proofs.Ways.{leftmost-is}
 
--- the greatest of the entries before `at`
-pub record Scanning (w : List ℕ) (first end greatest at : ℕ) : Type 0 where
-  pub from : first ≤ at
-  pub to : at ≤ end
-  pub attained : Attained w first end greatest
-  pub at_most : (k : ℕ) → first ≤ k → k < at → get_or w k 0 ≤ greatest
+-- a number that no entry of a list exceeds, and that an entry reaches or that is a
+pub record Greatest (a : ℕ) (xs : List ℕ) (v : ℕ) : Type 0 where
+  pub from : a ≤ v
+  pub at_most : (k : ℕ) → k < length xs → get_or xs k 0 ≤ v
+  pub attained : (v ≡ a) ⊎ ((k : ℕ) × (k < length xs) × (v ≡ get_or xs k 0))
 
-pub scan-start : (w : List ℕ) (first end : ℕ) → first < end → Scanning w first end 0 first
-scan-start w first end h =
+greatest-is : (a : ℕ) (xs : List ℕ) → Greatest a xs (fold max a xs)
+greatest-is a [] = record { from = omega arith; at_most = λ k h. absurd (omega arith); attained = inl refl }
+greatest-is a (x ∷ xs) =
+    let g = greatest-is (max a x) xs in
     record {
-      from = omega arith;
-      to = omega arith;
-      attained = record { node = first; from = omega arith; to = h; enough = omega arith };
-      at_most = λ k a b. absurd (omega arith);
-    }
-
-module _ {w : List ℕ} {first end greatest at : ℕ} (s : Scanning w first end greatest at) (h : at < end) where
-  -- a step: the entry there, or the greatest so far
-  scan_step : (v : ℕ) → Attained w first end v → greatest ≤ v → get_or w at 0 ≤ v → Scanning w first end v (at + 1)
-  scan_step v a l g =
-      record {
-        from = omega (arith, s.from);
-        to = omega arith;
-        attained = a;
-        at_most = λ k i j. elim (dec_le at k) [
-          | yes o ↦ let e : k ≡ at = omega arith in rw e g
-          | no o ↦ let m = s.at_most k i (omega arith) in omega arith
-        ];
-      }
-
-  pub scan-here : greatest < get_or w at 0 → Scanning w first end (get_or w at 0) (at + 1)
-  scan-here l =
-      scan_step (get_or w at 0) (record { node = at; from = s.from; to = h; enough = omega arith }) (omega arith)
-      (omega arith)
-
-  pub scan-there : get_or w at 0 ≤ greatest → Scanning w first end greatest (at + 1)
-  scan-there l = scan_step greatest s.attained (omega arith) l
-
-pub scan-end : {w : List ℕ} {first end greatest at : ℕ} → Scanning w first end greatest at → end ≤ at
-    → GreatestEntry w first end greatest
-scan-end s h = record { attained = s.attained; at_most = λ k a b. s.at_most k a (omega arith) }
-
--- no entry before `at` is enough
-pub record Passing (w : List ℕ) (first least at : ℕ) : Type 0 where
-  pub from : first ≤ at
-  pub attained : Attained w at (length w) least
-  pub earlier : (k : ℕ) → first ≤ k → k < at → get_or w k 0 < least
-
-pub pass_on : {w : List ℕ} {first least at : ℕ} → Passing w first least at → get_or w at 0 < least
-    → Passing w first least (at + 1)
-pass_on {at = at} p h =
-    let a = p.attained in
-    record {
-      from = omega (arith, p.from);
-      attained = elim (dec_le a.node at) [
-        | yes o ↦ let e : a.node ≡ at = omega (arith, a.from) in absurd (omega (arith, rw e at a.enough))
-        | no o ↦ record { node = a.node; from = omega arith; to = a.to; enough = a.enough }
-      ];
-      earlier = λ k i j. elim (dec_le at k) [
-        | yes o ↦ let e : k ≡ at = omega arith in rw e h
-        | no o ↦ p.earlier k i (omega arith)
+      from = omega (arith, g.from);
+      at_most = by_place (omega (arith, g.from)) g.at_most;
+      attained = elim g.attained [
+        | inr o ↦ inr (suc o.0, omega (arith, o.1), o.2)
+        | inl e ↦ elim (dec_le x a) [
+          | yes l ↦ inl (omega arith)
+          | no l ↦ inr (0, omega arith, omega arith)
+        ]
       ];
     }
+  where
+    by_place : {v : ℕ} → x ≤ v → ((k : ℕ) → k < length xs → get_or xs k 0 ≤ v) → (k : ℕ) → k < length (x ∷ xs)
+        → get_or (x ∷ xs) k 0 ≤ v
+    by_place i f zero h = i
+    by_place i f (suc k) h = f k (omega arith)
 
--- the first entry with the merit of the greatest is the leftmost best's
-pub first-best : (w : List ℕ) (first count greatest r : ℕ) → 0 < count
-    → GreatestEntry w first (first + count) greatest
-    → FirstFrom w first (greatest / max_nodes * max_nodes) r → r ≡ leftmost_best w first (count - 1)
-first-best w first count greatest r h g f =
-    leftmost-same (record {
-      from = f.from;
-      to = elim (dec_le r g.attained.node) [
-        | yes o ↦ omega (arith, g.attained.to)
-        | no o ↦ (let x = f.earlier g.attained.node g.attained.from (omega arith) in
-            absurd (omega (arith, g.attained.enough)))
-      ];
-      greatest = λ k a b. let x = g.at_most k a (omega arith) in omega (arith, f.enough);
-      leftmost = λ k a b. let x = f.earlier k a b in omega (arith, f.enough);
-    })
+-- the first of some children with the merit of the greatest entry is the leftmost best
+pub first-best : (w : List ℕ) (first count : ℕ) → 0 < count → first + count ≤ length w
+    → first + unwrap_or (position (leb (fold max 0 (between first (first + count) w) / max_nodes * max_nodes))
+    (between first (first + count) w)) 0 ≡ leftmost_best w first (count - 1)
+first-best w first count h l =
+    let xs = between first (first + count) w in
+    let long : length xs ≡ count = omega (arith, length-between w first (first + count) l) in
+    let g = greatest-is 0 xs in
+    let v = fold max 0 xs in
+    let m = leftmost-is w first (count - 1) in
+    let c = leftmost_best w first (count - 1) in
+    let entry : (k : ℕ) → k < count → get_or xs k 0 ≡ get_or w (first + k) 0 =
+    λ k q. get_or-between w first (first + count) k 0 (omega arith) in
+    let top : v / max_nodes ≤ best_at w c = elim g.attained [
+      | inl e ↦ omega arith
+      | inr o ↦ (let b = m.greatest (first + o.0) (omega arith) (omega (arith, o.1)) in
+          omega (arith, o.2, entry o.0 (omega (arith, o.1))))
+    ] in
+    let here : first + (c - first) ≡ c = omega (arith, m.from) in
+    let best : get_or xs (c - first) 0 ≡ get_or w c 0 =
+    entry (c - first) (omega (arith, m.to)) ∙ ap (λ i. get_or w i 0) here in
+    let p : position_or_len (leb (v / max_nodes * max_nodes)) xs ≡ c - first =
+    position_or_len_is (leb (v / max_nodes * max_nodes)) xs (c - first) 0 (omega (arith, m.to))
+    (λ k q. let b = m.leftmost (first + k) (omega arith) (omega arith) in
+    let t = g.at_most (c - first) (omega (arith, m.to)) in
+    lt-leb _ _ (omega (arith, best, entry k (omega (arith, m.to)))))
+    (λ q. le-leb _ _ (omega (arith, best, top))) in
+    rw (p, lt-ltb (c - first) (length xs) (omega (arith, m.to))) here
 
--- the test of the fall
-pub needs_refresh-other : (w : List ℕ) (γ k : ℕ) → (k ≡ 0 → ⊥) → ltb (best_at w k) γ ≡ needs_refresh w γ k
-needs_refresh-other w γ zero h = absurd (h refl)
-needs_refresh-other w γ (suc k) h = refl
-
--- on the way down from a node, `at` is reached, and `link` is its link
-pub record Descending (t F w : List ℕ) (node at link : ℕ) : Type 0 where
+-- on the way down from a node, `at` is reached
+pub record Descending (t F w : List ℕ) (node at : ℕ) : Type 0 where
   pub fits : Fits t F w
   pub inside : at < frames t
   pub same : descended (frames t - at) w at ≡ descended (frames t - node) w node
-  pub next : link ≡ link_at w at
 
 descended-enough : (t w : List ℕ) (wf : WellFormed t) (o : Sound t w) (f g k : ℕ) → k < frames t → frames t ≤ k + f
     → frames t ≤ k + g → descended f w k ≡ descended g w k
@@ -112,30 +85,31 @@ descended-enough t w wf o (suc f) (suc g) k h a b =
           (descended-enough t w wf o f g (link_at w k) (child-within t wf h c) (omega arith) (omega arith)))
     ]
 
-module _ {t F w : List ℕ} {node at link : ℕ} (d : Descending t F w node at link) where
+module _ {t F w : List ℕ} {node at : ℕ} (d : Descending t F w node at) where
   descended-here : descended (frames t - at) w at ≡ descended (suc (frames t - at - 1)) w at
   descended-here = ap (λ x. descended x w at) (omega (arith, d.inside))
 
-  -- a link other than 0 is a larger node of the table
-  pub descend-room : (link ≡ 0 → ⊥) → (at < link) × (link < frames t)
-  descend-room n =
-      elim (d.fits.sound.links at d.inside) [
-        | inl z ↦ absurd (n (d.next ∙ z))
-        | inr c ↦ (let wf = d.fits.formed in
-            rw d.next (child-later t wf d.inside c, child-within t wf d.inside c))
-      ]
+  module _ {child : ℕ} (is : (child ≡ link_at w at) × (0 < child)) where
+    -- a child to go down to is a larger node of the table
+    pub descend-room : (at < child) × (child < frames t)
+    descend-room =
+        elim (d.fits.sound.links at d.inside) [
+          | inl z ↦ absurd (omega (arith, is.0, is.1))
+          | inr c ↦ (let wf = d.fits.formed in
+              rw is.0 (child-later t wf d.inside c, child-within t wf d.inside c))
+        ]
 
-  -- a step down
-  pub descend-on : {next : ℕ} → (link ≡ 0 → ⊥) → next ≡ link_at w link → Descending t F w node link next
-  unfolding descended
-  descend-on n e =
-      let r = descend-room n in
-      let down : descended (frames t - at) w at ≡ descended (frames t - link) w link =
-      descended-here ∙ rw (← d.next, ne_eqb link 0 n) (descended-enough t w d.fits.formed d.fits.sound
-      (frames t - at - 1) (frames t - link) link r.1 (omega (arith, r.0)) (omega arith)) in
-      record { fits = d.fits; inside = r.1; same = sym down ∙ d.same; next = e }
+    -- a step down
+    pub descend-on : Descending t F w node child
+    unfolding descended
+    descend-on =
+        let r = descend-room in
+        let down : descended (frames t - at) w at ≡ descended (frames t - child) w child =
+        descended-here ∙ rw (← is.0, ne_eqb child 0 (λ z. omega (arith, is.1))) (descended-enough t w d.fits.formed
+        d.fits.sound (frames t - at - 1) (frames t - child) child r.1 (omega (arith, r.0)) (omega arith)) in
+        record { fits = d.fits; inside = r.1; same = sym down ∙ d.same }
 
   -- the end
-  pub descend-end : link ≡ 0 → at ≡ descended (frames t - node) w node
+  pub descend-end : link_at w at ≡ 0 → at ≡ descended (frames t - node) w node
   unfolding descended
-  descend-end z = sym (descended-here ∙ rw (eq-eqb (link_at w at) 0 (sym d.next ∙ z))) ∙ d.same
+  descend-end z = sym (descended-here ∙ rw (eq-eqb (link_at w at) 0 z)) ∙ d.same

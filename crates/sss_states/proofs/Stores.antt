@@ -1,7 +1,12 @@
 -- A change at and below a node: which nodes it is at, and what is read after its run of entries has been stored.
-use Rattle.prelude.proofs.{ℕ, zero, suc, ◌+◌, ◌≤◌, ◌<◌, arith, dec_le, ◌≡◌, refl, ◌∙◌, ◌⊎◌, inl, inr, List, length}
-use Rattle.prelude.proofs.{get_or}
-use Rattle.prelude.proofs.{set, length-set, get_or-set_same, get_or-set_other}
+use Rattle.prelude.proofs.{ℕ, zero, suc, ◌+◌, ◌-◌, ◌≤◌, ◌<◌, arith, dec_le, ◌≡◌, refl, ◌∙◌, ◌⊎◌, inl, inr, List, length}
+use Rattle.prelude.proofs.{[], ◌∷◌, ◌++◌, sym, ap, replicate, take, drop, take-append-drop, take-suc-set, drop-set-lt}
+use Rattle.prelude.proofs.{ap₂, append_assoc, append-nil, length-replicate, take_all, get_or, set, length-set}
+use Rattle.prelude.proofs.{get_or-set_same, get_or-set_other}
+use borrow.Rule.Slice.PartMut.{put_mid}
+use Rattle.std.specs.List.{between}
+use Rattle.std.proofs.lemmas.Slice.{put_mid-paste}
+use Rattle.std.proofs.lemmas.List.Edits.{length-between}
 use Rattle.table.specs.{frames, WellFormed, ChildOf}
 use Rattle.table.proofs.Next.{child-within}
 use Rattle.sss_states.specs.declared.Change.{Change}
@@ -53,11 +58,30 @@ module _ {A : Type 0} (f : ℕ → A) where
       rw e (stored-out (i + 1) n (set xs i (f i)) i d (inl (omega arith)) ∙ get_or-set_same xs i (f i) d (omega arith)))
       (λ o. stored-in (i + 1) n (set xs i (f i)) k d o (omega arith) (rw (length-set xs i (f i)) l))
 
--- what it stores after the node's entry is the change
-pub put-change : (γ : ℕ) (c : Change) (w : List ℕ) (v x n : ℕ) → v ≡ packed_entry c.score 0
-    → x ≡ packed_entry γ c.first
-    → n ≡ c.count → stored (λ k. v) c.first n (set w c.node x) ≡ changed γ c w
-put-change γ c w v x n e f g = rw (e, f, g)
+-- one entry stored at each number of a run fills it
+stored-same : {A : Type 0} (v : A) (i n : ℕ) (b : List A) → i + n ≤ length b
+    → stored (λ k. v) i n b ≡ take i b ++ replicate n v ++ drop (i + n) b
+unfolding stored
+stored-same v i zero b h =
+    let z : i + 0 ≡ i = omega arith in
+    sym (ap₂ (λ l k. l ++ drop k b) (append-nil (take i b)) z ∙ take-append-drop i b)
+stored-same v i (suc n) b h =
+    let k : i + 1 ≡ suc i = omega arith in
+    let l = ap (λ k. take k (set b i v)) k ∙ take-suc-set b i v (omega arith) in
+    let e : i + 1 + n ≡ i + suc n = omega arith in
+    let r = drop-set-lt (i + 1 + n) b i v (omega arith) in
+    stored-same v (i + 1) n (set b i v) (omega (arith, length-set b i v))
+    ∙ ap₂ (λ x y. x ++ replicate n v ++ y) l r
+    ∙ ap₂ (λ x k. x ++ drop k b) (append_assoc (take i b) (v ∷ []) (replicate n v)) e
+
+pub stored-fill : {A : Type 0} (v : A) (i n : ℕ) (b ys : List A) → i + n ≤ length b
+    → ys ≡ replicate (length (between i (i + n) b)) v → put_mid i (i + n - i) b ys ≡ stored (λ k. v) i n b
+stored-fill v i n b ys h e =
+    let k : n ≡ i + n - i = omega arith in
+    let m : length (between i (i + n) b) ≡ n = omega (arith, length-between b i (i + n) h) in
+    put_mid-paste i (i + n - i) b ys (replicate n v) n (e ∙ ap (λ z. replicate z v) m) k (sym (length-replicate n v))
+    ∙ ap (λ x. take i b ++ x ++ drop (i + n) b) (take_all n (replicate n v) (omega (arith, length-replicate n v)))
+    ∙ sym (stored-same v i n b h)
 
 -- WHAT A CHANGE STORES
 

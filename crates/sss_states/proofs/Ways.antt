@@ -198,18 +198,3 @@ leftmost-is w i (suc n) =
         leftmost = λ k a b. first-or-later i k a (λ e. rw e (omega arith)) (λ h. r.leftmost k h b);
       })
     ]
-
--- and there is one only
-pub leftmost-same : {w : List ℕ} {i n c : ℕ} → Leftmost w i n c → c ≡ leftmost_best w i n
-leftmost-same {w} {i} {n} {c} l =
-    let d = leftmost_best w i n in
-    let m = leftmost-is w i n in
-    elim (dec_le c d) [
-      | no a ↦ (let x = l.leftmost d m.from (omega arith) in
-          let y = m.greatest c l.from l.to in absurd (omega arith))
-      | yes a ↦ elim (dec_le d c) [
-        | no b ↦ (let x = m.leftmost c l.from (omega arith) in
-            let y = l.greatest d m.from m.to in absurd (omega arith))
-        | yes b ↦ omega arith
-      ]
-    ]

@@ -1,5 +1,5 @@
 -- What building blocks and proofs are stated with, and no contract of a public entry and no demand cites.
+pub mod Fronts
 pub mod Kept
 pub mod Putting
-pub mod Scanned
 pub mod Shown

@@ -1,5 +1,5 @@
 -- What replaces a state is a change at and below one node of the table.
-use Rattle.prelude.proofs.{ℕ, zero, suc, ◌+◌, ◌≤◌, ◌<◌, arith, ◌≡◌, refl, sym, inl, inr, List, ltb, ltb-true}
+use Rattle.prelude.proofs.{ℕ, zero, suc, ◌+◌, ◌≤◌, ◌<◌, arith, ◌≡◌, refl, sym, ◌∙◌, inl, inr, List, ltb, ltb-true}
 use Rattle.gametree.specs.declared.Side.{Side}
 use Rattle.gametree.specs.declared.Side.TheVariants.{Max, Min}
 use Rattle.gametree.specs.{greatest}
@@ -10,7 +10,18 @@ use Rattle.sss_states.specs.declared.Status.{Status}
 use Rattle.sss_states.specs.declared.Status.TheVariants.{Live, Solved}
 use Rattle.sss_states.specs.declared.Change.{Change}
 use Rattle.sss_states.specs.{Fits, Local, Putting}
-use Rattle.sss_turns.specs.{one, of_inner, of_live, of_child, of_state}
+use Rattle.sss_states.specs.declared.State.{State}
+use Rattle.certificate_bounds.specs.{Progress}
+use Rattle.table_positions.specs.{parent_in}
+use Rattle.table_positions.proofs.Positions.{positioned-parent}
+use Rattle.sss_turns.specs.{Replaceable, one, of_inner, of_live, of_child, of_state}
+
+-- the parent that is read of a SOLVED state's node is its parent, a node of the table
+pub parent-read : {t F : List ℕ} {p : Progress} {e : State} {γ d : ℕ} → Replaceable t F p e γ → e.status ≡ Solved
+    → d ≡ parent_in F e.node → (d ≡ parent_of t e.node) × (d < frames t)
+parent-read {t} {F} {e = e} r s z =
+    let q = z ∙ positioned-parent t F r.positions e.node r.node in
+    (q, rw q (parent-child t r.formed e.node (r.lower s) r.node).0)
 
 module _ (t : List ℕ) where
   -- a state of the node itself

@@ -1,31 +1,22 @@
 -- What taking a state does, in the cases that the code tells apart.
-use Rattle.prelude.proofs.{ℕ, zero, suc, ◌+◌, ◌≤◌, ◌<◌, arith, dec_lt, ◌≡◌, refl, ap, true, false, List, [], eqb}
+use Rattle.prelude.proofs.{ℕ, zero, suc, ◌+◌, ◌≤◌, ◌<◌, arith, dec_lt, ◌≡◌, refl, true, false, List, []}
 use Rattle.prelude.proofs.{length}
-use Rattle.prelude.proofs.{eq-eqb, ne_eqb, lt-ltb, le-ltb}
+use Rattle.prelude.proofs.{lt-ltb, le-ltb}
 use Rattle.lists.proofs.Choice.{true-not-false}
-use Rattle.gametree.specs.declared.Side.{Side}
-use Rattle.table.specs.{frames, child_count, score_of}
-use Rattle.certificate_bounds.specs.{marked, ones, mark_all, progress, evaluate_all}
+use Rattle.table.specs.{frames, child_count}
+use Rattle.certificate_bounds.specs.{marked, ones, mark_all}
 use Rattle.certificate_bounds.proofs.Listing.{ones-set}
 use Rattle.sss_states.specs.declared.Status.{Status}
 use Rattle.sss_states.specs.declared.Status.TheVariants.{Live, Solved}
 use Rattle.sss_states.specs.declared.State.{State}
-use Rattle.sss_states.specs.declared.Change.{Change}
 use Rattle.sss_turns.specs.declared.Counts.{Counts}
-use Rattle.sss_turns.specs.declared.Stage.TheVariants.{Spent}
-use Rattle.sss_turns.specs.declared.Run.{Run}
-use Rattle.sss_turns.specs.{of_inner, of_live, of_state, is_solved_root, evaluated_at, new_leaves, is_live_leaf}
-use Rattle.sss_turns.specs.{is_uncovered, settled_front, replaced_run, recounted, ended_run, taken}
+use Rattle.sss_turns.specs.{is_solved_root, evaluated_at, new_leaves, is_live_leaf}
+use Rattle.sss_turns.specs.{is_uncovered}
 
 -- a SOLVED state that is not the root's
 pub not_root : (s : Status) (i : ℕ) → is_solved_root s i ≡ false → s ≡ Solved → 0 < i
 not_root s zero e q = absurd (true-not-false refl (rw q at e))
 not_root s (suc i) e q = omega arith
-
--- what replaces a LIVE inner node
-pub live-inner : (t : List ℕ) (i γ : ℕ) (q : Side) (n : ℕ) → (n ≡ 0 → ⊥) → of_inner t i γ q n ≡ of_live t i γ q n
-live-inner t i γ q zero z = absurd (z refl)
-live-inner t i γ q (suc n) z = refl
 
 -- only a LIVE leaf is evaluated, so at most one leaf
 pub inner-none : (n : ℕ) (s : Status) (i : ℕ) → (n ≡ 0 → ⊥) → evaluated_at n s i ≡ []
@@ -42,15 +33,6 @@ live-leaf zero Live e = (refl, refl)
 live-leaf zero Solved e = absurd (true-not-false e refl)
 live-leaf (suc n) s e = absurd (true-not-false e refl)
 
--- as the code asks
-pub live-count : (m n : ℕ) → m ≡ n → eqb m 0 ≡ is_live_leaf n Live
-live-count m zero e = eq-eqb m 0 e
-live-count m (suc n) e = ne_eqb m 0 (λ z. omega arith)
-
-pub solved-not : (n : ℕ) → false ≡ is_live_leaf n Solved
-solved-not zero = refl
-solved-not (suc n) = refl
-
 -- no other state evaluates a leaf
 no-leaves : (n : ℕ) (s : Status) (i : ℕ) → is_live_leaf n s ≡ false → length (evaluated_at n s i) ≡ 0
 no-leaves zero Live i e = absurd (true-not-false refl e)
@@ -62,26 +44,26 @@ few-leaves zero Live i = omega arith
 few-leaves zero Solved i = omega arith
 few-leaves (suc n) s i = omega arith
 
-module _ (t : List ℕ) (e : State) (k : Counts) (h : k.leaves ≤ k.allowance) where
+module _ (t : List ℕ) (e : State) (n : ℕ) (k : Counts) (h : n ≤ k.allowance) where
   -- a leaf is evaluated where that is one too many
-  pub uncovered-leaf : is_uncovered t e k ≡ true
-      → (e.status ≡ Live) × (child_count t e.node ≡ 0) × (k.leaves ≡ k.allowance)
+  pub uncovered-leaf : is_uncovered t e n k ≡ true
+      → (e.status ≡ Live) × (child_count t e.node ≡ 0) × (n ≡ k.allowance)
   uncovered-leaf u =
-      elim (dec_lt k.leaves k.allowance) [
-        | yes l ↦ absurd (true-not-false u (rw (lt-ltb k.leaves k.allowance l)))
+      elim (dec_lt n k.allowance) [
+        | yes l ↦ absurd (true-not-false u (rw (lt-ltb n k.allowance l)))
         | no l ↦ (let p = live-leaf (child_count t e.node) e.status
-            (rw (le-ltb k.leaves k.allowance (omega arith)) at u) in (p.0, p.1, omega arith))
+            (rw (le-ltb n k.allowance (omega arith)) at u) in (p.0, p.1, omega arith))
       ]
 
   -- else the allowance covers what is evaluated
-  pub covered : is_uncovered t e k ≡ false → k.leaves + length (new_leaves t e) ≤ k.allowance
+  pub covered : is_uncovered t e n k ≡ false → n + length (new_leaves t e) ≤ k.allowance
   covered u =
-      elim (dec_lt k.leaves k.allowance) [
+      elim (dec_lt n k.allowance) [
         | yes l ↦ omega (arith, few-leaves (child_count t e.node) e.status e.node)
         | no l ↦ omega (
           arith,
           no-leaves (child_count t e.node) e.status e.node
-              (rw (le-ltb k.leaves k.allowance (omega arith)) at u),
+              (rw (le-ltb n k.allowance (omega arith)) at u),
         )
       ]
 
@@ -93,20 +75,3 @@ unfolding mark_all
 counted-on t b zero Live i k c h r u = omega (arith, c, ones-set b (frames t) i h (omega arith) (u refl refl))
 counted-on t b zero Solved i k c h r u = omega (arith, c)
 counted-on t b (suc n) s i k c h r u = omega (arith, c)
-
--- a state e that is not the SOLVED root, and whose merit has the score m
-module _ (t w b o : List ℕ) (r : Run) (e : State) (q : is_solved_root e.status e.node ≡ false) (m : ℕ)
-    (is : m ≡ score_of e.merit) where
-  -- where the allowance does not cover its leaf the run ends
-  pub ended_is : {r' : Run} → is_uncovered t e r.counts ≡ true → r' ≡ ended_run t (Spent m) r.counts
-      → record { front = w; marks = b; order = o; run = r' } ≡ taken t w b o r e
-  ended_is h x = rw (q, h, x, is)
-
-  -- and else e is replaced, by the change c
-  pub stepped-is : (c : Change) (n : ℕ) {w' b' o' : List ℕ} {r' : Run} → is_uncovered t e r.counts ≡ false
-      → c ≡ of_state t e.node m e.status → w' ≡ (settled_front t m c w).front
-      → progress n b' o' ≡ evaluate_all (progress r.counts.leaves b o) (new_leaves t e)
-      → r' ≡ replaced_run t w c m (recounted n r.best r.counts)
-      → record { front = w'; marks = b'; order = o'; run = r' } ≡ taken t w b o r e
-  stepped-is c n h i f p x =
-      rw (q, h, x, f, ap (λ y. y.marks) p, ap (λ y. y.order) p, ap (λ y. y.leaves) p, i, is)

@@ -4,57 +4,46 @@ ghost use Rattle.gametree.specs.Trees.{greatest};
 ghost use Rattle.table.specs.Frame.{max_nodes, frames, child_count};
 ghost use Rattle.table.specs.Tree.{valuation};
 ghost use Rattle.certificate_bounds.specs.Marks.{marked};
-ghost use Rattle.certificate_bounds.specs.Engine.Progress.{progress, evaluate_all, Listable};
+ghost use Rattle.certificate_bounds.specs.Engine.Progress.{evaluate_all, Listable};
+ghost use Rattle.certificate_bounds.specs.Engine.Evaluations.{progress_of, SameBuffers};
 ghost use Rattle.table_positions.specs.Engine.Positions.{Positioned};
 ghost use Rattle.sss_turns.specs.Engine.Rules.{one as one_of, of_inner, of_child, of_state};
 ghost use Rattle.sss_turns.specs.Engine.Turn.{new_leaves};
 ghost use Rattle.sss_turns.specs.Engine.Ready.{Replaceable};
 
-use certificate_bounds::evaluate_next;
+use certificate_bounds::Evaluations;
 use gametree::{Side, better};
 use sss_states::{Change, State, Status};
 use table::{child_count, first_child};
 use table_positions::{depth_at, parent_at, side_at};
 
-// What replaces a state, and how many leaves are evaluated then.
-#[derive(Clone, Copy)]
-pub struct Replacement {
-    pub change: Change,
-    pub leaves: usize,
-}
-
-// The replacement of a state, after so many evaluated leaves.
+// What replaces a state.
 pub fn of_state(
     table: &[u8],
     positions: &[u32],
-    evaluated: &mut [u8],
-    order: &mut [u16],
+    evaluations: &mut Evaluations<'_>,
     entry: State,
     merit: u32,
-    leaves: usize,
-) -> Replacement
-    requires { Replaceable table.now positions.now (progress leaves evaluated.old order.old) entry merit }
-    ensures change_value { result.change ≡ of_state table.now entry.node merit entry.status }
-    ensures order_after { progress result.leaves evaluated.new order.new
-        ≡ evaluate_all (progress leaves evaluated.old order.old)
-        (new_leaves table.now entry) }
+) -> Change
+    requires { Replaceable table.now positions.now (progress_of evaluations.old) entry merit }
+    ensures value { result ≡ of_state table.now entry.node merit entry.status }
+    ensures progress { progress_of evaluations.new
+        ≡ evaluate_all (progress_of evaluations.old) (new_leaves table.now entry) }
+    ensures same_buffers { SameBuffers evaluations.old evaluations.new }
 {
     let node = entry.node as usize;
-    let status = entry.status;
-    match status {
+    match entry.status {
         Status::Live => {
             let count = child_count(table, node);
             if count == 0 {
-                of_leaf(table, positions, evaluated, order, node, merit, leaves)
+                of_leaf(table, positions, evaluations, node, merit)
             } else {
-                let change = of_inner(table, node, count, side_at(positions, node), merit);
-                Replacement { change, leaves }
+                of_inner(table, node, count, side_at(positions, node), merit)
             }
         }
         Status::Solved => {
             let parent = parent_at(positions, node);
-            let change = of_child(table, node, parent, side_at(positions, parent), merit);
-            Replacement { change, leaves }
+            of_child(table, node, parent, side_at(positions, parent), merit)
         }
     }
 }
@@ -76,33 +65,21 @@ fn one(node: usize, first: usize, status: Status, score: u32) -> Change
 fn of_leaf(
     table: &[u8],
     positions: &[u32],
-    evaluated: &mut [u8],
-    order: &mut [u16],
+    evaluations: &mut Evaluations<'_>,
     node: usize,
     merit: u32,
-    leaves: usize,
-) -> Replacement
+) -> Change
     requires positioned { Positioned table.now positions.now }
     requires node_bound { (node < frames table.now) × (child_count table.now node ≡ 0) × (merit ≤ greatest) }
-    requires node_in_bounds { (node < length evaluated.old) × (marked evaluated.old node ≡ false) }
-    requires listable { Listable table.now (progress leaves evaluated.old order.old) }
-    ensures change_value { result.change ≡ one_of node node Status.Solved (min merit (valuation table.now node)) }
-    ensures order_after { progress result.leaves evaluated.new order.new
-        ≡ evaluate_all (progress leaves evaluated.old order.old) (node ∷ []) }
+    requires node_in_bounds { (node < length evaluations.old.marks.now)
+        × (marked evaluations.old.marks.now node ≡ false) }
+    requires listable { Listable table.now (progress_of evaluations.old) }
+    ensures value { result ≡ one_of node node Status.Solved (min merit (valuation table.now node)) }
+    ensures progress { progress_of evaluations.new ≡ evaluate_all (progress_of evaluations.old) (node ∷ []) }
+    ensures same_buffers { SameBuffers evaluations.old evaluations.new }
 {
-    let evaluation = evaluate_next(
-        table,
-        evaluated,
-        order,
-        node,
-        depth_at(positions, node),
-        leaves,
-    );
-    let merit = better(Side::Min, merit, evaluation.score);
-    Replacement {
-        change: one(node, node, Status::Solved, merit),
-        leaves: evaluation.leaves,
-    }
+    let score = evaluations.evaluate(table, node, depth_at(positions, node));
+    one(node, node, Status::Solved, better(Side::Min, merit, score))
 }
 
 // Of a LIVE Max node all children are LIVE, of a Min node the first.

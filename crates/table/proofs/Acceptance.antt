@@ -1,8 +1,8 @@
 -- A table is accepted exactly when it is as SPEC 3 states it, clause by clause; and an accepted table is well-formed.
-use Rattle.prelude.proofs.{ℕ, ◌%◌, ◌≤◌, ◌<◌, arith, ◌≡◌, none, some, List, length, ltb-true, leb-true, eqb-true, lt-ltb}
+use Rattle.prelude.proofs.{ℕ, ◌%◌, ◌≤◌, ◌<◌, arith, ◌≡◌, none, some, List, length, ltb-true, leb-true, eqb-true}
+use Rattle.prelude.proofs.{lt-ltb, Ok, Err}
 use Rattle.prelude.proofs.{le-leb, eq-eqb}
 use Rattle.table.specs.declared.Rejection.{Rejection}
-use Rattle.table.specs.declared.Checked.TheVariants.{Nodes, Rejected}
 use Rattle.table.specs.{frame_size, max_nodes, frames, next, max_table, WellFormed, check1, check2, check3}
 use Rattle.table.specs.{check_node, check8, check9, frames_rejection, rejection, nodes_rejection, Accepted, checked}
 use Rattle.table.specs.{FrameAsStated, TableAsStated}
@@ -76,9 +76,9 @@ module _ (t : List ℕ) where
   accepted-formed e = let s = accepted-stated e in stated-formed t s.most s.frame s.total
 
   -- a check that gives nodes has accepted the table, and gives their number
-  pub nodes-accepted : (n : ℕ) → Nodes n ≡ checked t → Accepted t × (n ≡ frames t)
+  pub nodes-accepted : (n : ℕ) → Ok n ≡ checked t → Accepted t × (n ≡ frames t)
   nodes-accepted n e = answer-nodes (frames t) n (rejection t) e
 
   -- a check that gives a rejection gives the first
-  pub rejected-first : (r : Rejection) → Rejected r ≡ checked t → rejection t ≡ some r
+  pub rejected-first : (r : Rejection) → Err r ≡ checked t → rejection t ≡ some r
   rejected-first r e = answer-rejected (frames t) r (rejection t) e

@@ -1,30 +1,35 @@
 -- Questions put to node after node: as long as they pass, the first rejection is that of the nodes that are left.
 use Rattle.prelude.proofs.{ℕ, zero, suc, ◌+◌, ◌*◌, ◌-◌, ◌≤◌, ◌<◌, arith, dec_lt, ◌≡◌, refl, sym, ◌∙◌, Option, none}
-use Rattle.prelude.proofs.{some}
+use Rattle.prelude.proofs.{Result, Ok, Err}
+use Rattle.prelude.proofs.{some, ap}
 use Rattle.prelude.proofs.{List}
+use Rattle.std.specs.Prelude.{IsErrAnd}
 use Rattle.table.specs.declared.Rejection.{Rejection}
-use Rattle.table.specs.declared.Checked.{Checked}
-use Rattle.table.specs.declared.Checked.TheVariants.{Nodes, Rejected}
 use Rattle.table.specs.{max_children, frames, next, ◌and_then◌, each_node, unless, answer, ◌leaving◌, check_node}
 use Rattle.table.specs.{nodes_rejection}
 use Rattle.table.proofs.Next.{next_more}
 use Rattle.table.proofs.Stated.{both-passed, passed-both, passed-stated}
 use Rattle.lists.proofs.Choice.{clash}
 
--- the answer of a question that gets a "no"
-abbrev pub refused : ℕ → ℕ → Checked
-refused q p = Rejected (record { number = q; place = p })
+-- a rejection that `?` passes on is the one that was given
+pub passed-on : {A E : Type 0} (r : Result A E) (e : E) → IsErrAnd r (λ y. y ≡ e) → r ≡ Err e
+passed-on (Ok x) e p = absurd p
+passed-on (Err y) e p = ap Err p
 
-nodes-rejected : {m : ℕ} {r : Rejection} → Nodes m ≡ Rejected r → ⊥
+-- the answer of a question that gets a "no"
+abbrev pub refused : ℕ → ℕ → Result ℕ Rejection
+refused q p = Err (record { number = q; place = p })
+
+nodes-rejected : {m : ℕ} {r : Rejection} → Ok m ≡ Err r → ⊥
 nodes-rejected e = clash (cc)
 
 -- an answer that gives nodes comes from questions that passed
-pub answer-nodes : (m k : ℕ) (o : Option Rejection) → Nodes k ≡ answer m o → (o ≡ none) × (k ≡ m)
+pub answer-nodes : (m k : ℕ) (o : Option Rejection) → Ok k ≡ answer m o → (o ≡ none) × (k ≡ m)
 answer-nodes m k none e = (refl, cc)
 answer-nodes m k (some r) e = absurd (nodes-rejected e)
 
 -- a rejection is that of the questions
-pub answer-rejected : (m : ℕ) (r : Rejection) (o : Option Rejection) → Rejected r ≡ answer m o → o ≡ some r
+pub answer-rejected : (m : ℕ) (r : Rejection) (o : Option Rejection) → Err r ≡ answer m o → o ≡ some r
 answer-rejected m r none e = absurd (nodes-rejected (sym e))
 answer-rejected m r (some s) e = cc
 
@@ -109,7 +114,7 @@ asking-none t =
 
 module _ (t : List ℕ) (i m : ℕ) (h : i < frames t) (a : Asking t i m) where
   -- node i passed
-  pub asking-more : (k : ℕ) → Nodes k ≡ answer (next t (i + 1)) (check_node t i) → Asking t (i + 1) k
+  pub asking-more : (k : ℕ) → Ok k ≡ answer (next t (i + 1)) (check_node t i) → Asking t (i + 1) k
   asking-more k e =
       let p = answer-nodes _ _ (check_node t i) e in
       let c = (passed-stated t i p.0).few_children in
@@ -121,14 +126,14 @@ module _ (t : List ℕ) (i m : ℕ) (h : i < frames t) (a : Asking t i m) where
       }
 
   -- node i did not pass
-  pub asking-until : (r : Rejection) → Rejected r ≡ answer (next t (i + 1)) (check_node t i)
-      → Rejected r ≡ answer (next t (frames t)) (nodes_rejection t)
+  pub asking-until : (r : Rejection) → Err r ≡ answer (next t (i + 1)) (check_node t i)
+      → Err r ≡ answer (next t (frames t)) (nodes_rejection t)
   asking-until r e =
       rw (passed-until (check_node t) (frames t) i h a.passed r (answer-rejected _ _ (check_node t i) e))
 
 -- past the last node
 pub asking-all : (t : List ℕ) (i m : ℕ) → frames t ≤ i → Asking t i m
-    → Nodes m ≡ answer (next t (frames t)) (nodes_rejection t)
+    → Ok m ≡ answer (next t (frames t)) (nodes_rejection t)
 asking-all t i m h a =
     let e : i ≡ frames t = omega (arith, a.within) in
     rw (passed-all (check_node t) (frames t) (rw e at a.passed), a.counted, e)

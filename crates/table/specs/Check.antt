@@ -1,8 +1,8 @@
 -- The check of a table: questions 1 to 9 in order (SPEC 4.2, 4.3).
 use Rattle.std.specs.Prelude.{ℕ, zero, suc, ◌%◌, ◌≡◌, Bool, true, ◌&&◌, ◌||◌, List, [], ◌∷◌, ltb, leb, eqb, length}
+use Rattle.std.specs.Prelude.{Result}
 use Rattle.std.proofs.Math.Option.{Option, none}
 use Rattle.table.specs.declared.Rejection.{Rejection}
-use Rattle.table.specs.declared.Checked.{Checked}
 use Rattle.table.specs.Frame.{frame_size, max_children, max_depth, frames, first_child, child_count, byte3, same_mover}
 use Rattle.table.specs.Frame.{max_table, value_bytes, stored_score, next}
 use Rattle.table.specs.Position.{depth_of}
@@ -93,5 +93,5 @@ abbrev pub Accepted : List ℕ → Type 0
 Accepted t = rejection t ≡ none
 
 -- the answer of the check of a table
-abbrev pub checked : List ℕ → Checked
+abbrev pub checked : List ℕ → Result ℕ Rejection
 checked t = answer (frames t) (rejection t)

@@ -1,6 +1,6 @@
 -- A table is a list of bytes; a node is a frame of six of them (SPEC 3.1). Fields are read by node number, and are
 -- 0 past the table's end.
-use Rattle.std.specs.Prelude.{ℕ, zero, suc, ◌+◌, ◌*◌, ◌/◌, ◌%◌, List, length, get_or}
+use Rattle.std.specs.Prelude.{ℕ, zero, suc, ◌+◌, ◌*◌, ◌/◌, ◌%◌, Bool, ◌&&◌, List, ltb, eqb, length, get_or}
 use Rattle.gametree.specs.Trees.{zero_score}
 
 -- the limits (SPEC 3.2)
@@ -35,6 +35,10 @@ first_child t i = byte_of t i 0 * 256 + byte_of t i 1
 -- byte 2: the count of children
 abbrev pub child_count : List ℕ → ℕ → ℕ
 child_count t i = byte_of t i 2
+
+-- is i a leaf of the table? No, past its last whole frame
+abbrev pub is_leaf : List ℕ → ℕ → Bool
+is_leaf t i = ltb i (frames t) && eqb (child_count t i) 0
 
 -- byte 3: who moves there
 abbrev pub byte3 : List ℕ → ℕ → ℕ

@@ -5,6 +5,7 @@ pub mod Position
 pub mod Tree
 pub mod Value
 pub mod Formed
+pub mod Questions
 pub mod Rejection
 pub mod Check
 pub mod Shape
@@ -12,7 +13,7 @@ pub mod FirstNo
 pub mod Results
 unfoldable pub use Frame.{next}
 pub use Frame.{frame_size, max_nodes, max_table, max_children, max_depth, frames, byte_of, first_child, child_count}
-pub use Frame.{byte3}
+pub use Frame.{is_leaf, byte3}
 pub use Frame.{same_mover, value_bytes, two_bytes, stored_score}
 unfoldable pub use Children.{children_of, children_at}
 unfoldable pub use Position.{parent_before, position_within, position_of}
@@ -21,6 +22,7 @@ unfoldable pub use Tree.{up_from, children_from, grow, tree_at, valuation}
 pub use Tree.{node, tree, leaf_score}
 pub use Value.{value_of, score_of, signed, max_value, win, worth, Ordinary}
 pub use Formed.{WellFormed, ChildOf}
+pub use Questions.{number_of}
 unfoldable pub use Rejection.{each_node}
 pub use Rejection.{ask, ◌and_then◌, unless, answer, Outcome, ◌leaving◌}
 unfoldable pub use Check.{frames_rejection, rejection}

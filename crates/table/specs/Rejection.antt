@@ -1,10 +1,8 @@
 -- Rejections (01: the first "no", with its number and a place), checks put one after the other, and what a call that
 -- puts questions first gives and leaves.
-use Rattle.std.specs.Prelude.{ℕ, zero, suc, ◌+◌, Bool, true, false}
+use Rattle.std.specs.Prelude.{ℕ, zero, suc, ◌+◌, Bool, true, false, Result, Ok, Err}
 use Rattle.std.proofs.Math.Option.{Option, none, some}
 use Rattle.table.specs.declared.Rejection.{Rejection}
-use Rattle.table.specs.declared.Checked.{Checked}
-use Rattle.table.specs.declared.Checked.TheVariants.{Nodes, Rejected}
 
 infixr 40 ◌and_then◌
 infixl 35 ◌leaving◌
@@ -29,8 +27,8 @@ unless none refused result = result
 unless (some r) refused result = refused r
 
 -- the answer of a check that gives the number of nodes
-abbrev pub answer : ℕ → Option Rejection → Checked
-answer n q = unless q Rejected (Nodes n)
+abbrev pub answer : ℕ → Option Rejection → Result ℕ Rejection
+answer n q = unless q Err (Ok n)
 
 -- what a call answers, and what it leaves in the memory that it is lent
 pub record Outcome (A B : Type 0) : Type 0 where

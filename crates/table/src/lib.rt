@@ -1,14 +1,16 @@
 // Byte tables of six-byte frames: a node's children, the fields of a frame, and what is asked of one node.
 #![tactic(auto)]
 
-ghost use Rattle.std.specs.Prelude.{◌≡◌, ◌<◌, ◌≤◌, nat_abs};
+ghost use Rattle.std.specs.Prelude.{◌≡◌, ◌+◌, ◌*◌, ◌/◌, ◌%◌, ◌<◌, ◌≤◌, nat_abs, set};
 ghost use Rattle.gametree.specs.Trees.{greatest, zero_score};
 ghost use Rattle.table.specs.Frame.{frame_size, max_nodes, frames, next as next_of, two_bytes};
-ghost use Rattle.table.specs.Frame.{byte_of, first_child, child_count, byte3, value_bytes, stored_score};
+ghost use Rattle.table.specs.Frame.{byte_of, first_child, child_count, is_leaf, byte3, value_bytes};
+ghost use Rattle.table.specs.Frame.{stored_score};
 ghost use Rattle.table.specs.Children.{children_of, children_at};
 ghost use Rattle.table.specs.Position.{child_side, child_position};
 ghost use Rattle.table.specs.Tree.{leaf_score};
 ghost use Rattle.table.specs.Value.{value_of, score_of};
+ghost use Rattle.table.specs.Questions.{number_of};
 ghost use Rattle.table.specs.Check.{byte3_right, first_child_right, value_right};
 
 use gametree::{Position, Side, other};
@@ -46,46 +48,59 @@ const LOST: u32 = ZERO_SCORE as u32 - WIN;
 // Byte 3 of a node where the same side moves as at its parent (SPEC 3.5).
 const SAME_MOVER: usize = 1;
 
-// The flags of a certificate: a node in the max tree only, in the min tree only, and in both.
+// The flags of a certificate: a node in the max tree only, in the min tree only, and in both. They are bytes, since
+// certificates are buffers that callers in C lend.
 pub const IN_MAX: u8 = 1;
 
 pub const IN_MIN: u8 = 2;
 
 pub const IN_BOTH: u8 = 3;
 
-// The numbers of the questions about a table and the buffers lent with it, by what a "no" means (SPEC 4.2).
-pub const EMPTY: u8 = 1;
+// The questions that calls ask, by what a "no" means, with their numbers (SPEC 4.2; 15 was struck).
+#[derive(Clone, Copy, Debug, PartialEq, Eq)]
+pub enum Question {
+    Empty = 1,
+    TooLong = 2,
+    NotWhole = 3,
+    WrongByte3 = 4,
+    TooManyChildren = 5,
+    WrongFirstChild = 6,
+    WrongValue = 7,
+    WrongTotal = 8,
+    TooDeep = 9,
+    ShortBuffer = 10,
+    WrongFlag = 11,
+    NoMaxTree = 12,
+    NoMinTree = 13,
+    UnequalValues = 14,
+    LowercaseLetter = 16,
+    NoMaxLeaf = 17,
+    TooLarge = 18,
+    NoLeaf = 19,
+    OutOfRange = 20,
+    NoValue = 21,
+    WrongWidth = 22,
+    WrongDepth = 23,
+}
 
-pub const TOO_LONG: u8 = 2;
+impl Question {
+    // The rejection by a "no" to this question, at a place.
+    pub fn at(self, place: usize) -> Rejection
+        ensures { result ≡ record { number = number_of self; place = place } }
+    {
+        Rejection {
+            number: self as u8,
+            place,
+        }
+    }
+}
 
-pub const NOT_WHOLE: u8 = 3;
-
-pub const WRONG_BYTE_3: u8 = 4;
-
-pub const TOO_MANY_CHILDREN: u8 = 5;
-
-pub const WRONG_FIRST_CHILD: u8 = 6;
-
-pub const WRONG_VALUE: u8 = 7;
-
-pub const WRONG_TOTAL: u8 = 8;
-
-pub const TOO_DEEP: u8 = 9;
-
-pub const SHORT_BUFFER: u8 = 10;
-
-// A rejection (01: the first "no"): the question's number and a place (SPEC 4.1).
-#[derive(Clone, Copy)]
+// A rejection (01: the first "no"): the question's number and a place (SPEC 4.1). The number is a byte, since
+// `text::refused` and the library's answers take any, as C may.
+#[derive(Clone, Copy, Debug, PartialEq, Eq)]
 pub struct Rejection {
     pub number: u8,
     pub place: usize,
-}
-
-// The answer of a check: the number of nodes, or a rejection.
-#[derive(Clone, Copy)]
-pub enum Checked {
-    Nodes(usize),
-    Rejected(Rejection),
 }
 
 // The frames of a node's children, as a part of the table that begins at the first child's; empty on a leaf, past the
@@ -155,13 +170,6 @@ pub fn value_right(table: &[u8], node: usize) -> bool
     score < GREATEST
 }
 
-// A rejection with its number and place.
-pub fn rejected(number: u8, place: usize) -> Checked
-    ensures { result ≡ Checked.Rejected (record { number = number; place = place }) }
-{
-    Checked::Rejected(Rejection { number, place })
-}
-
 // How many whole frames the table has.
 pub fn frame_count(table: &[u8]) -> usize
     ensures { result ≡ frames table.now }
@@ -177,12 +185,34 @@ fn byte_of(table: &[u8], node: usize, k: usize) -> usize
     table[FRAME_SIZE * node + k] as usize
 }
 
+// Bytes k and k + 1 of a node's frame as one number, high byte first.
+fn two_bytes_of(table: &[u8], node: usize, k: usize) -> u16
+    requires { (node < frames table.now) × (k + 1 < frame_size) }
+    ensures { result ≡ byte_of table.now node k * 256 + byte_of table.now node (k + 1) }
+{
+    let at = FRAME_SIZE * node + k;
+    u16::from_be_bytes([table[at], table[at + 1]])
+}
+
+// A number in bytes k and k + 1 of a node's frame, high byte first.
+pub fn put_two_bytes(table: &mut [u8], node: usize, k: usize, number: u16)
+    requires { (node < frames table.old) × (k + 1 < frame_size) }
+    ensures { table.new
+        ≡ set (set table.old (frame_size * node + k) (number / 256)) (frame_size * node + k + 1)
+        (number % 256) }
+{
+    let [high, low] = number.to_be_bytes();
+    let at = FRAME_SIZE * node + k;
+    table[at] = high;
+    table[at + 1] = low;
+}
+
 // The number of a node's first child.
 pub fn first_child(table: &[u8], node: usize) -> usize
     requires { node < frames table.now }
     ensures { (result ≡ first_child table.now node) × (result < two_bytes) }
 {
-    byte_of(table, node, 0) * 256 + byte_of(table, node, 1)
+    two_bytes_of(table, node, 0) as usize
 }
 
 // The number of a node's children.
@@ -191,6 +221,13 @@ pub fn child_count(table: &[u8], node: usize) -> usize
     ensures { (result ≡ child_count table.now node) × (result < 256) }
 {
     byte_of(table, node, 2)
+}
+
+// Is this node a leaf of the table? No, past the last whole frame.
+pub fn is_leaf(table: &[u8], node: usize) -> bool
+    ensures { result ≡ is_leaf table.now node }
+{
+    node < frame_count(table) && child_count(table, node) == 0
 }
 
 // Byte 3 of a node's frame.
@@ -206,7 +243,7 @@ fn value_bytes(table: &[u8], node: usize) -> usize
     requires { node < frames table.now }
     ensures { (result ≡ value_bytes table.now node) × (result < two_bytes) }
 {
-    byte_of(table, node, 4) * 256 + byte_of(table, node, 5)
+    two_bytes_of(table, node, 4) as usize
 }
 
 // The score that the value bytes hold.

@@ -2,9 +2,8 @@
 -- children known so far, depth d + 1; where i reaches e, the level below begins, and it ends where the children begin.
 -- If that level is the last one allowed and some node is not yet known, the first such node is too deep; once each node
 -- is known, none is.
-use Rattle.prelude.proofs.{ℕ, ◌+◌, ◌≤◌, ◌<◌, arith, dec_lt, ◌≡◌, refl, ap, ◌∙◌, List, le-leb, lt-leb}
+use Rattle.prelude.proofs.{ℕ, ◌+◌, ◌≤◌, ◌<◌, arith, dec_lt, ◌≡◌, refl, ap, ◌∙◌, List, le-leb, lt-leb, Ok}
 use Rattle.table.specs.declared.Rejection.{Rejection}
-use Rattle.table.specs.declared.Checked.TheVariants.{Nodes}
 use Rattle.table.specs.{max_depth, frames, child_count, next, parent_of, depth_of, WellFormed, answer, check9}
 use Rattle.table.specs.{depths_rejection}
 use Rattle.table.proofs.Next.{next_more, next-mono, next-within, waits, child-next, next-child, child-later}
@@ -46,9 +45,13 @@ descending-none t =
       };
     }
 
+-- where not all nodes are known, some are not
+pub some-left : (t : List ℕ) → WellFormed t → {i d e m : ℕ} → Descending t i d e m → (m ≡ frames t → ⊥) → m < frames t
+some-left t wf {i} a h = omega (arith, a.counted, next-within t wf i a.within, h)
+
 module _ (t : List ℕ) (wf : WellFormed t) (i d e m : ℕ) (a : Descending t i d e m) where
   -- each node is known, and none is too deep
-  pub descending-all : frames t ≤ m → Nodes (frames t) ≡ answer (frames t) (depths_rejection t)
+  pub descending-all : frames t ≤ m → Ok (frames t) ≡ answer (frames t) (depths_rejection t)
   descending-all h =
       let f : (k : ℕ) → k < frames t → depth_of t k ≤ max_depth =
       λ k l. elim (dec_lt k i) [

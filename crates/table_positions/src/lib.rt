@@ -31,14 +31,15 @@ pub fn fill(table: &[u8], positions: &mut [u32])
     };
     positions[0] = packed(0, root);
     let n = frame_count(table);
-    let mut node: usize = 0;
     let mut next: usize = 1;
-    while next < n {
+    for node in 0..n {
+        if next == n {
+            break;
+        }
         let end = next + child_count(table, node);
         let position = position_at(positions, node);
         fill_children(table, positions, next, end, node, position);
         next = end;
-        node += 1;
     }
 }
 

@@ -1,4 +1,4 @@
--- Lemmas on text that is laid down piece by piece.
-pub mod Laying
-pub mod Signs
+-- Lemmas on text that grows piece by piece.
+pub mod Digits
+pub mod Pushing
 pub mod Sizes

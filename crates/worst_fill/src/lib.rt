@@ -12,25 +12,16 @@ ghost use Rattle.worst_fill.specs.Outcome.{fill_outcome};
 ghost use Rattle.worst_fill.specs.Engine.Fillable.{Fillable, nth_child};
 
 use gametree::Side;
-use table::{Checked, FRAME_SIZE, Rejection, child_count, child_side, first_child};
+use table::{Rejection, child_count, child_side, first_child, put_two_bytes};
 use table_check::check;
-
-// The answer of a call: the number of leaves, or the first question that got a "no".
-#[derive(Clone, Copy)]
-pub enum Filled {
-    Leaves(usize),
-    Rejected(Rejection),
-}
 
 // Writes each leaf's rank into the lent table, in blocks that rise from left to right at Max and fall at Min: the
 // number of leaves, or the first rejection, and then the table is as it was.
-pub fn fill(table: &mut [u8]) -> Filled
+pub fn fill(table: &mut [u8]) -> Result<usize, Rejection>
     ensures { result leaving table.new ≡ fill_outcome table.old }
 {
-    match check(table) {
-        Checked::Nodes(_) => Filled::Leaves(fill_node(table, 0, Side::Max, 0)),
-        Checked::Rejected(rejection) => Filled::Rejected(rejection),
-    }
+    check(table)?;
+    Ok(fill_node(table, 0, Side::Max, 0))
 }
 
 // The leaves below a node get the ranks from `rank` on, in the order in which they are visited: at Max the children
@@ -66,12 +57,10 @@ fn nth_child(mover: Side, first: usize, count: usize, turn: usize) -> usize
     }
 }
 
-// A leaf's rank in its bytes 4 and 5, high byte first.
+// A leaf's rank in its bytes 4 and 5.
 fn put_rank(table: &mut [u8], node: usize, rank: usize)
     requires { (node < frames table.old) × (rank < max_nodes) }
     ensures { table.new ≡ with_rank node rank table.old }
 {
-    let at = FRAME_SIZE * node;
-    table[at + 4] = (rank / 256) as u8;
-    table[at + 5] = (rank % 256) as u8;
+    put_two_bytes(table, node, 4, rank as u16);
 }

@@ -1,12 +1,16 @@
--- `analysis::write` meets its contract: what is laid into zeros is the text of the report.
-use Rattle.prelude.proofs.{arith, ℕ, length-replicate}
-use Rattle.text.specs.{text_size}
-use Rattle.analysis.proofs.Sizes.{report-few}
-use Rattle.text.proofs.Sizes.{text-room, text-laid}
+-- Each way out gives the report of the file.
+use Rattle.prelude.proofs.{arith, ap, ◌∙◌}
+use Rattle.text.specs.{text_of}
+use Rattle.analysis.proofs.Reporting.{read-accepted, read-rejected}
 use Rattle.analysis.proofs.write.Goals as goal
 
-pub put_report-length-requires : goal.put_report-length-requires
-put_report-length-requires c = text-room _ (report-few _) (omega (arith, length-replicate {A = ℕ} text_size 0))
+pub analyse-requires : goal.analyse-requires
+analyse-requires c = (read-accepted _ _ _ _ c.read.ensures _ c.in-Ok.is).formed
 
-pub returns : goal.returns
-returns c = text-laid _ c.put_report-length.ensures
+pub returns-in-Ok : goal.returns-in-Ok
+returns-in-Ok c =
+    c.analyse.ensures ∙ ap text_of (read-accepted _ _ _ _ c.read.ensures _ c.in-Ok.is).reported
+
+pub returns-in-Err : goal.returns-in-Err
+returns-in-Err c =
+    c.refused.ensures ∙ ap text_of (read-rejected _ _ _ _ c.read.ensures (omega arith) _ c.in-Err.is)

@@ -1,9 +1,8 @@
 -- The parts of two answers that the call hands on.
-use Rattle.std.specs.Prelude.{ℕ, pos}
+use Rattle.table.specs.declared.Rejection.{Rejection}
+use Rattle.std.specs.Prelude.{ℕ, pos, Result, Ok, Err}
 use Rattle.methods.specs.declared.Answer.{Answer}
 use Rattle.methods.specs.declared.Answer.TheVariants.{Found, Spent, Rejected}
-use Rattle.variation.specs.declared.VariationAnswer.{VariationAnswer}
-use Rattle.variation.specs.declared.VariationAnswer.TheVariants as line
 use Rattle.variation.specs.declared.LineFound.{LineFound}
 
 -- no value and no move
@@ -17,6 +16,6 @@ found_in (Spent s) n = nothing_in n
 found_in (Rejected r) n = nothing_in n
 
 -- the length of a line that was given; 0 where none was
-abbrev pub line_length : VariationAnswer → ℕ
-line_length (line.Length n) = n
-line_length (line.Rejected r) = 0
+abbrev pub line_length : Result ℕ Rejection → ℕ
+line_length (Ok n) = n
+line_length (Err r) = 0

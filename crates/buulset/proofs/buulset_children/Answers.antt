@@ -1,7 +1,7 @@
 -- `buulset::buulset_children` meets its contract: the part that it makes known by two numbers is the one that the call
 -- hands back.
 use Rattle.prelude.proofs.{ℕ, zero, suc, ◌+◌, ◌*◌, ◌/◌, ◌<◌, ◌≤◌, arith, ◌≡◌, refl, sym, ap, ◌∙◌, ◌&&◌, List, [], ltb}
-use Rattle.prelude.proofs.{leb, length, take, drop, length-drop, length-take-le, ltb-true, leb-true}
+use Rattle.prelude.proofs.{rules, leb, length, take, drop, length-drop, length-take-le, ltb-true, leb-true}
 use Rattle.lists.proofs.Choice.{cond_cases, and_both}
 use Rattle.table.specs.{frame_size, frames, first_child, child_count, children_of}
 use Rattle.buulset_answers.specs.declared.Children.{Children}
@@ -82,7 +82,7 @@ module _ (t : List ℕ) (i : ℕ) where
         (ap (λ (k : ℕ). record { first = k; count = length p / frame_size }) q ∙ some-children _ _ _ h same_count)
 
 pub returns-then-count-eq0 : goal.returns-then-count-eq0
-returns-then-count-eq0 c = none _ _ _ c.children.ensures.0 _ c.no_children.ensures (omega arith)
+returns-then-count-eq0 c = none _ _ _ c.children.ensures.0 _ (search rules) (omega arith)
 
 pub first_child-requires : goal.first_child-requires
 first_child-requires c = among _ _ _ c.children.ensures.0 (omega arith)

@@ -6,6 +6,3 @@ use Rattle.certificate_bounds.proofs.best.Given as goal
 abbrev pub invariant-loop-at : goal.invariant-loop-at
 invariant-loop-at l = (l.from ≤ l.at) × (l.at < l.to) × (l.value
     ≡ best_in l.side (λ k. get_or l.bounds k 0) l.at (l.to - (l.at + 1)))
-
-abbrev pub decreases-loop-at : goal.decreases-loop-at
-decreases-loop-at l = l.at - l.from

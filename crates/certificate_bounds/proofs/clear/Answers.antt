@@ -1,32 +1,22 @@
--- `certificate_bounds::clear` meets its contract: before mark i, the first i marks are 0.
-use Rattle.prelude.proofs.{arith, ◌≡◌, sym, ap, ◌∙◌, length, set}
+-- `certificate_bounds::clear` meets its contract: what is filled with 0 is written as 0 for each node.
+use Rattle.prelude.proofs.{ℕ, suc, zero, ◌+◌, ◌≤◌, arith, ◌≡◌, refl, sym, ap, ap₂, ◌∙◌, List, ◌∷◌, ◌++◌, map, length}
+use Rattle.prelude.proofs.{replicate}
+use Rattle.prelude.proofs.{length-take-le, take, drop}
+use Rattle.table.specs.{up_from}
 use Rattle.table_positions.specs.{written}
-use Rattle.table_positions.proofs.Buffers.{written_none, written_next, written-length}
 use Rattle.certificate_bounds.proofs.clear.Goals as goal
 
-pub loop-i-init : goal.loop-i-init
-loop-i-init c = (sym (written_none (λ k. 0) _), omega arith)
+-- zeros, one for each of n nodes
+zeros : (n i : ℕ) → replicate {A = ℕ} n 0 ≡ map (λ k. 0) (up_from i n)
+unfolding up_from
+zeros zero i = refl
+zeros (suc n) i = ap (λ l. 0 ∷ l) (zeros n (i + 1))
 
-pub bounds-evaluated-i : goal.bounds-evaluated-i
-bounds-evaluated-i c = omega (
-  arith,
-  ap length c.loop-i.invariant.0,
-  written-length (λ k. 0) c.loop-i.i c.args.evaluated.now (omega arith),
-)
-
-pub overflow_add-i : goal.overflow_add-i
-overflow_add-i c = omega arith
-
-pub loop-i-smaller : goal.loop-i-smaller
-loop-i-smaller c = omega arith
-
-pub loop-i-preserved : goal.loop-i-preserved
-loop-i-preserved c = (
-  ap (λ e. set e c.loop-i.i 0) c.loop-i.invariant.0 ∙ written_next (λ k. 0) c.loop-i.i c.args.evaluated.now
-      (omega arith),
-  omega arith,
-)
+zeroed : (n : ℕ) (b : List ℕ) → n ≤ length b
+    → replicate {A = ℕ} (length (take n b)) 0 ++ drop n b ≡ written (λ k. 0) n b
+unfolding written
+zeroed n b h = ap (λ m. replicate {A = ℕ} m 0 ++ drop n b) (length-take-le n b h) ∙ ap (λ l. l ++ drop n b) (zeros n 0)
 
 pub returns : goal.returns
-returns c = let e : c.loop-i.i ≡ c.args.n = omega arith in
-    c.loop-i.invariant.0 ∙ ap (λ n. written (λ k. 0) n c.args.evaluated.now) e
+returns c = ap (λ l. l ++ drop c.args.n c.args.evaluated.now) (c.fill.ensures.after (λ y e. e))
+    ∙ zeroed _ _ c.requires

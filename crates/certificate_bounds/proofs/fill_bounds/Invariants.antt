@@ -11,6 +11,3 @@ abbrev pub invariant-loop-node : goal.invariant-loop-node
 invariant-loop-node l = (l.evaluated ≡ l.initial.evaluated) × Rising
     (bound_of l.table (marked l.initial.evaluated) least) (frames l.table) l.initial.lows l.lows l.node
     × Rising (bound_of l.table (marked l.initial.evaluated) greatest) (frames l.table) l.initial.highs l.highs l.node
-
-abbrev pub decreases-loop-node : goal.decreases-loop-node
-decreases-loop-node l = l.node

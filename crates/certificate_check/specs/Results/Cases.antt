@@ -1,12 +1,11 @@
 -- Small certificates, with the verdict on each.
-use Rattle.std.specs.Prelude.{ℕ, List, [], ◌∷◌, ◌++◌, pos, negsuc}
+use Rattle.table.specs.declared.Rejection.{Rejection}
+use Rattle.std.specs.Prelude.{ℕ, List, [], ◌∷◌, ◌++◌, pos, negsuc, Result, Ok, Err, ℤ}
 use Rattle.table.specs.Results.Cases.{leaf_frame, inner_frame, small, capture, lone}
-use Rattle.certificate_check.specs.declared.Verdict.{Verdict}
-use Rattle.certificate_check.specs.declared.Verdict.TheVariants.{Value, Rejected}
 
 -- a rejection with its number and place
-abbrev pub rejected_at : ℕ → ℕ → Verdict
-rejected_at number place = Rejected (record { number = number; place = place })
+abbrev pub rejected_at : ℕ → ℕ → Result ℤ Rejection
+rejected_at number place = Err (record { number = number; place = place })
 
 -- a root with a leaf of 31,000 and a Min node above one leaf, of the value of these two bytes
 abbrev pub two_wins : ℕ → ℕ → List ℕ
@@ -16,16 +15,16 @@ two_wins high low = inner_frame 1 2 ++ leaf_frame 121 24 ++ inner_frame 3 1 ++ l
 pub record Case : Type 0 where
   pub table : List ℕ
   pub flags : List ℕ
-  pub verdict : Verdict
+  pub verdict : Result ℤ Rejection
 
-abbrev pub case : List ℕ → List ℕ → Verdict → Case
+abbrev pub case : List ℕ → List ℕ → Result ℤ Rejection → Case
 case t flags v = record { table = t; flags = flags; verdict = v }
 
 abbrev pub cases : List Case
 cases =
-    case (small 1 2 3 4) (3 ∷ 1 ∷ 3 ∷ 1 ∷ 0 ∷ 3 ∷ 2 ∷ []) (Value (pos 3))
+    case (small 1 2 3 4) (3 ∷ 1 ∷ 3 ∷ 1 ∷ 0 ∷ 3 ∷ 2 ∷ []) (Ok (pos 3))
     -- a byte past the nodes is not asked
-    ∷ case (small 1 2 3 4) (3 ∷ 1 ∷ 3 ∷ 1 ∷ 0 ∷ 3 ∷ 2 ∷ 200 ∷ []) (Value (pos 3))
+    ∷ case (small 1 2 3 4) (3 ∷ 1 ∷ 3 ∷ 1 ∷ 0 ∷ 3 ∷ 2 ∷ 200 ∷ []) (Ok (pos 3))
     -- a flag is missing
     ∷ case (small 1 2 3 4) (3 ∷ 1 ∷ 3 ∷ 1 ∷ 0 ∷ 3 ∷ []) (rejected_at 10 0)
     -- a flag past 3
@@ -43,11 +42,11 @@ cases =
     -- solution trees of the values 31,000 and 31,000, but of the worths 30,999 and 30,998; and of 31,000 and 31,001, of
     -- one worth
     ∷ case (two_wins 121 24) (3 ∷ 1 ∷ 3 ∷ 3 ∷ []) (rejected_at 14 0)
-    ∷ case (two_wins 121 25) (3 ∷ 1 ∷ 3 ∷ 3 ∷ []) (Value (pos 30999))
+    ∷ case (two_wins 121 25) (3 ∷ 1 ∷ 3 ∷ 3 ∷ []) (Ok (pos 30999))
     -- where Max moves twice the max tree has all children at both nodes, the min tree one
-    ∷ case capture (3 ∷ 3 ∷ 1 ∷ 3 ∷ []) (Value (pos 2))
+    ∷ case capture (3 ∷ 3 ∷ 1 ∷ 3 ∷ []) (Ok (pos 2))
     ∷ case capture (3 ∷ 3 ∷ 3 ∷ 2 ∷ []) (rejected_at 12 1)
-    ∷ case lone (3 ∷ []) (Value (negsuc 4))
+    ∷ case lone (3 ∷ []) (Ok (negsuc 4))
     ∷ case lone (2 ∷ []) (rejected_at 12 0)
     ∷ case lone (1 ∷ []) (rejected_at 13 0)
     ∷ case lone (0 ∷ []) (rejected_at 12 0)

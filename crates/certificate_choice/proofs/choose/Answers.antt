@@ -1,22 +1,21 @@
 -- `choose` meets its contract: a rejected table settles the answer, an accepted one leaves it to the certificates.
-use Rattle.prelude.proofs.{ℕ, ◌≡◌, sym, ◌∙◌, List, ltb}
+use Rattle.prelude.proofs.{Result}
+use Rattle.prelude.proofs.{ℕ, ◌≡◌, ◌∙◌, List, ltb, Ok, Err}
 use Rattle.table.specs.declared.Rejection.{Rejection}
-use Rattle.table.specs.declared.Checked.TheVariants as answers
 use Rattle.table.specs.{frames, rejection, checked}
-use Rattle.table.proofs.Asked.{answer-nodes, answer-rejected}
+use Rattle.table.proofs.Asked.{passed-on, answer-nodes, answer-rejected}
 use Rattle.table.proofs.Acceptance.{accepted-formed, nodes-accepted}
 use Rattle.certificate_check.specs.{flags_rejection}
-use Rattle.certificate_choice.specs.declared.Choice.{Choice}
-use Rattle.certificate_choice.specs.declared.Choice.TheVariants.{Rejected}
+use Rattle.certificate_choice.specs.declared.Chosen.{Chosen}
 use Rattle.certificate_choice.specs.{flagged_leaves, choice_by, choice}
 use Rattle.certificate_choice.proofs.choose.Goals as goal
 
 module _ (t f s : List ℕ) where
-  table-rejected : (r : Rejection) → answers.Rejected r ≡ checked t → Rejected r ≡ choice t f s
+  table-rejected : (r : Rejection) → Err r ≡ checked t → Err r ≡ choice t f s
   unfolding choice
   table-rejected r e = rw (answer-rejected (frames t) r (rejection t) e)
 
-  table-accepted : (n : ℕ) → answers.Nodes n ≡ checked t → (c : Choice)
+  table-accepted : (n : ℕ) → Ok n ≡ checked t → (c : Result Chosen Rejection)
       → c ≡ choice_by (flags_rejection t f) (flags_rejection t s) (ltb (flagged_leaves t s) (flagged_leaves t f))
       → c ≡ choice t f s
   unfolding choice
@@ -24,12 +23,12 @@ module _ (t f s : List ℕ) where
 
 pub choose_certificate-requires : goal.choose_certificate-requires
 choose_certificate-requires c = accepted-formed c.args.table.now
-    (nodes-accepted c.args.table.now _ (sym c.in-Nodes.is ∙ c.check-checked.ensures)).0
+    (nodes-accepted c.args.table.now _ c.in_ok-check.ensures).0
 
-pub returns-in-Rejected : goal.returns-in-Rejected
-returns-in-Rejected c = table-rejected c.args.table.now c.args.first.now c.args.second.now _
-    (sym c.in-Rejected.is ∙ c.check-checked.ensures)
+pub returns-in_err-check : goal.returns-in_err-check
+returns-in_err-check c = passed-on _ _ c.from_residual.ensures.1
+    ∙ table-rejected c.args.table.now c.args.first.now c.args.second.now _ c.in_err-check.ensures
 
-pub returns-in-Nodes : goal.returns-in-Nodes
-returns-in-Nodes c = table-accepted c.args.table.now c.args.first.now c.args.second.now _
-    (sym c.in-Nodes.is ∙ c.check-checked.ensures) _ c.choose_certificate.ensures
+pub returns : goal.returns
+returns c = table-accepted c.args.table.now c.args.first.now c.args.second.now _
+    c.in_ok-check.ensures _ c.choose_certificate.ensures

@@ -6,6 +6,6 @@ use Rattle.certificate_choice.proofs.choose_certificate.Goals as goal
 
 pub fewer-requires : goal.fewer-requires
 fewer-requires c = (
-  passed-enough _ _ (value-passed _ _ _ (sym c.in_default.is ∙ c.check_certificate-of_first.ensures)),
-  passed-enough _ _ (value-passed _ _ _ (sym c.in_default-of_second-2.is ∙ c.check_certificate-of_second.ensures)),
+  passed-enough _ _ (value-passed _ _ _ (sym c.in-Ok-Ok.is-0 ∙ c.check_certificate-of_first.ensures)),
+  passed-enough _ _ (value-passed _ _ _ (sym c.in-Ok-Ok.is-1 ∙ c.check_certificate-of_second.ensures)),
 )

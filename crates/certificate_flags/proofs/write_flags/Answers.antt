@@ -1,7 +1,7 @@
 -- `certificate_flags::write_flags` meets its contract: each turn stores the flags of one node's children.
-use Rattle.prelude.proofs.{◌+◌, ◌≤◌, ◌<◌, arith, sym, length-set}
-use Rattle.table.specs.{frames}
-use Rattle.table_positions.proofs.TopDown.{visit-root, visit-goes, visit-within, visit-step}
+use Rattle.prelude.proofs.{◌+◌, ◌≤◌, ◌<◌, ◌≡◌, arith, sym, ap, length-set}
+use Rattle.table.specs.{frames, next}
+use Rattle.table_positions.proofs.TopDown.{visit-root, visit-within, visit-step}
 use Rattle.table_positions.proofs.TopDown.{filled-root, filled-all}
 use Rattle.certificate_flags.proofs.Flags.{flags-step}
 use Rattle.certificate_flags.proofs.write_flags.Goals as goal
@@ -9,52 +9,27 @@ use Rattle.certificate_flags.proofs.write_flags.Goals as goal
 pub bounds-certificate-0 : goal.bounds-certificate-0
 bounds-certificate-0 c = omega (arith, c.requires.well_formed.non_empty)
 
-pub loop-next-init : goal.loop-next-init
-loop-next-init c = (
+pub loop-node-init : goal.loop-node-init
+loop-node-init c = (
   visit-root c.args.table.now (omega (arith, length-set c.args.certificate.now 0 3)),
   λ f r. filled-root c.args.table.now c.requires.well_formed f c.args.certificate.now 3 (sym r.at_root)
       c.requires.table_in_bounds_2.1,
 )
 
-pub child_count-requires : goal.child_count-requires
-child_count-requires c =
-    -- a turn has a node to visit
-    let inside : c.loop-next.node < frames c.args.table.now =
-    visit-goes _ c.loop-next.invariant.0 c.requires.well_formed (omega arith) in
-    inside
-
 pub overflow_add-end : goal.overflow_add-end
 overflow_add-end c =
-    -- a turn has a node to visit
-    let inside : c.loop-next.node < frames c.args.table.now =
-    visit-goes _ c.loop-next.invariant.0 c.requires.well_formed (omega arith) in
+    let inside : c.loop-node.node < frames c.args.table.now = omega arith in
     -- and its children lie within the table
-    let within : c.loop-next.next + c.child_count.result ≤ frames c.args.table.now =
-    visit-within _ c.loop-next.invariant.0 inside _ c.child_count.ensures.0 c.requires.well_formed in
+    let within : c.loop-node.next + c.child_count.result ≤ frames c.args.table.now =
+    visit-within _ c.loop-node.invariant.0 inside _ c.child_count.ensures.0 c.requires.well_formed in
     omega (arith, within, c.requires.well_formed.at_most)
-
-pub bounds-certificate-node : goal.bounds-certificate-node
-bounds-certificate-node c =
-    -- a turn has a node to visit
-    let inside : c.loop-next.node < frames c.args.table.now =
-    visit-goes _ c.loop-next.invariant.0 c.requires.well_formed (omega arith) in
-    omega (arith, inside, c.loop-next.invariant.0.room)
-
-pub side_at-requires : goal.side_at-requires
-side_at-requires c =
-    -- a turn has a node to visit
-    let inside : c.loop-next.node < frames c.args.table.now =
-    visit-goes _ c.loop-next.invariant.0 c.requires.well_formed (omega arith) in
-    omega (arith, inside)
 
 pub chosen_if_needed-chosen-requires : goal.chosen_if_needed-chosen-requires
 chosen_if_needed-chosen-requires c =
-    -- a turn has a node to visit
-    let inside : c.loop-next.node < frames c.args.table.now =
-    visit-goes _ c.loop-next.invariant.0 c.requires.well_formed (omega arith) in
+    let inside : c.loop-node.node < frames c.args.table.now = omega arith in
     -- and its children lie within the table
-    let within : c.loop-next.next + c.child_count.result ≤ frames c.args.table.now =
-    visit-within _ c.loop-next.invariant.0 inside _ c.child_count.ensures.0 c.requires.well_formed in
+    let within : c.loop-node.next + c.child_count.result ≤ frames c.args.table.now =
+    visit-within _ c.loop-node.invariant.0 inside _ c.child_count.ensures.0 c.requires.well_formed in
     let w = within in
     let h = inside in
     record {
@@ -65,40 +40,31 @@ chosen_if_needed-chosen-requires c =
 
 pub flag_children-requires : goal.flag_children-requires
 flag_children-requires c =
-    -- a turn has a node to visit
-    let inside : c.loop-next.node < frames c.args.table.now =
-    visit-goes _ c.loop-next.invariant.0 c.requires.well_formed (omega arith) in
+    let inside : c.loop-node.node < frames c.args.table.now = omega arith in
     -- and its children lie within the table
-    let within : c.loop-next.next + c.child_count.result ≤ frames c.args.table.now =
-    visit-within _ c.loop-next.invariant.0 inside _ c.child_count.ensures.0 c.requires.well_formed in
-    (omega arith, omega (arith, within, c.loop-next.invariant.0.room))
+    let within : c.loop-node.next + c.child_count.result ≤ frames c.args.table.now =
+    visit-within _ c.loop-node.invariant.0 inside _ c.child_count.ensures.0 c.requires.well_formed in
+    (omega arith, omega (arith, within, c.loop-node.invariant.0.room))
 
-pub overflow_add-node : goal.overflow_add-node
-overflow_add-node c =
+pub loop-node-preserved : goal.loop-node-preserved
+loop-node-preserved c =
     -- a turn has a node to visit
-    let inside : c.loop-next.node < frames c.args.table.now =
-    visit-goes _ c.loop-next.invariant.0 c.requires.well_formed (omega arith) in
-    omega (arith, inside, c.requires.well_formed.at_most)
-
-pub loop-next-smaller : goal.loop-next-smaller
-loop-next-smaller c =
-    -- a turn has a node to visit
-    let inside : c.loop-next.node < frames c.args.table.now =
-    visit-goes _ c.loop-next.invariant.0 c.requires.well_formed (omega arith) in
-    omega (arith, inside)
-
-pub loop-next-preserved : goal.loop-next-preserved
-loop-next-preserved c =
-    -- a turn has a node to visit
-    let inside : c.loop-next.node < frames c.args.table.now =
-    visit-goes _ c.loop-next.invariant.0 c.requires.well_formed (omega arith) in (
-      visit-step _ c.loop-next.invariant.0 inside _ c.child_count.ensures.0 _ _ c.flag_children.ensures,
-      λ f r. flags-step _ c.requires.well_formed _ _ _ f r (c.loop-next.invariant.1 f r) inside _
+    let inside : c.loop-node.node < frames c.args.table.now = omega arith in (
+      visit-step _ c.loop-node.invariant.0 inside _ c.child_count.ensures.0 _ _ c.flag_children.ensures,
+      λ f r. flags-step _ c.requires.well_formed _ _ _ f r (c.loop-node.invariant.1 f r) inside _
           c.child_count.ensures.0
           c.side_at.ensures _ _ c.movers_flag-others.ensures c.chosen_if_needed-chosen.ensures _
           c.flag_children.ensures,
     )
 
-pub returns : goal.returns
-returns c = λ f r. filled-all _ c.requires.well_formed f c.args.certificate.now 3 (c.loop-next.invariant.1 f r)
-    (omega arith)
+pub returns-after-loop-node : goal.returns-after-loop-node
+returns-after-loop-node c = λ f r.
+    let t = c.args.table.now in
+    let v = c.loop-node.invariant.0 in
+    let e : c.loop-node.node ≡ frames t = omega (arith, v.inside) in
+    filled-all _ c.requires.well_formed f c.args.certificate.now 3 (c.loop-node.invariant.1 f r)
+    (omega (arith, v.here, ap (next t) e, c.requires.well_formed.total))
+
+pub returns-then-next-n : goal.returns-then-next-n
+returns-then-next-n c = λ f r.
+    filled-all _ c.requires.well_formed f c.args.certificate.now 3 (c.loop-node.invariant.1 f r) (omega arith)

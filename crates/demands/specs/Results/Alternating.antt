@@ -1,6 +1,6 @@
 -- What calls gave for a table or a file before byte 3 had a meaning (02: N8): question 4 asked for zero, and who moves
 -- was read from the depth.
-use Rattle.std.specs.Prelude.{ℕ, Bool, ◌&&◌, List, [], ◌∷◌, eqb, length}
+use Rattle.std.specs.Prelude.{ℕ, Bool, ◌&&◌, List, [], ◌∷◌, eqb, length, Result, ℤ}
 use Rattle.std.proofs.Math.Option.{Option}
 use Rattle.lists.specs.Lists.{count_from}
 use Rattle.gametree.specs.declared.Side.{Side}
@@ -14,7 +14,6 @@ use Rattle.table.specs.Check.{check1, check10}
 use Rattle.table.specs.Results.Alternating.{zero_frames, zero_rejection, side_by_depth, tree_by_depth}
 use Rattle.file_line.specs.Lines.{decoded}
 use Rattle.file_read.specs.File.{file_check2, file_check3, file_check16}
-use Rattle.certificate_check.specs.declared.Verdict.{Verdict}
 use Rattle.certificate_check.specs.Flags.{member, required_of, root_member}
 use Rattle.certificate_check.specs.Check.{check11, check14, judged}
 use Rattle.text.specs.Text.{refused_line}
@@ -36,7 +35,7 @@ abbrev pub tree_rule_by_depth : ℕ → Side → List ℕ → List ℕ → Optio
 tree_rule_by_depth q p t flags = each_node (λ i. ask (rule_by_depth p t flags i) q i) 0 (frames t)
 
 -- the answer of the check of a certificate
-abbrev pub verdict_by_depth : List ℕ → List ℕ → Verdict
+abbrev pub verdict_by_depth : List ℕ → List ℕ → Result ℤ Rejection
 verdict_by_depth t flags =
     judged t flags
     (zero_rejection t and_then check10 (frames t) (length flags ∷ []) and_then check11 t flags

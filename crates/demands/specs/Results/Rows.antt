@@ -1,7 +1,8 @@
 -- Rows of tests over byte tables: what each search gives, the lists and the flags that it leaves; and the rows of the
 -- cases of 01 marked P, beyond what 01 says of them.
-use Rattle.std.specs.Prelude.{ℕ, List, [], ◌∷◌, ℤ, pos, negsuc, length, replicate}
+use Rattle.std.specs.Prelude.{ℕ, List, [], ◌∷◌, ℤ, pos, negsuc, length, replicate, Result, Ok, Err}
 use Rattle.table.specs.Frame.{frames}
+use Rattle.table.specs.declared.Rejection.{Rejection}
 use Rattle.table.specs.Results.Cases.{small, lone, single}
 use Rattle.certificate_write.specs.Search.{listed}
 use Rattle.certificate_bounds.specs.Marks.{ones}
@@ -9,8 +10,7 @@ use Rattle.methods.specs.declared.Method.TheVariants.{AlphaBeta, Mtd, Sss}
 use Rattle.methods.specs.declared.Answer.{Answer}
 use Rattle.methods.specs.declared.Answer.TheVariants.{Found, Spent, Rejected}
 use Rattle.methods.specs.Outcome.{lent, search_outcome}
-use Rattle.plain.specs.declared.PlainAnswer.{PlainAnswer}
-use Rattle.plain.specs.declared.PlainAnswer.TheVariants as plain-answer
+use Rattle.plain.specs.declared.PlainResult.{PlainResult}
 use Rattle.plain.specs.Outcome.{plain_outcome}
 use Rattle.demands.specs.Cases.{findings_are}
 
@@ -23,9 +23,9 @@ abbrev pub spent : ℤ → (leaves steps : ℕ) → Answer
 spent v n k = Spent (record { merit = v; leaves = n; steps = k })
 
 -- the plain engine gives no count: it is that of the marks at 1
-abbrev by_plain : (marks : ℕ) → PlainAnswer → Answer
-by_plain n (plain-answer.Found f) = found f.value f.root_move n 0
-by_plain n (plain-answer.Rejected r) = Rejected r
+abbrev by_plain : (marks : ℕ) → Result PlainResult Rejection → Answer
+by_plain n (Ok f) = found f.value f.root_move n 0
+by_plain n (Err r) = Rejected r
 
 -- a line of the table: what alpha-beta, the plain engine, MTD and SSS* give, the list of leaves that each of the three
 -- searches leaves in one of zeros, and the flags that SSS* and the plain engine write

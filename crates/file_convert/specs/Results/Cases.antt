@@ -1,17 +1,16 @@
 -- Small files with what the converter gives for them.
-use Rattle.std.specs.Prelude.{ℕ, List, [], ◌∷◌, ◌++◌}
+use Rattle.table.specs.declared.Rejection.{Rejection}
+use Rattle.std.specs.Prelude.{ℕ, List, [], ◌∷◌, ◌++◌, Result, Ok, Err}
 use Prim.Native.String.{String}
 use Rattle.file_line.specs.Results.Text.{text}
 use Rattle.table.specs.Rejection.{Outcome, ◌leaving◌}
-use Rattle.file_write.specs.declared.Written.{Written}
-use Rattle.file_write.specs.declared.Written.TheVariants.{Length, Rejected}
 use Rattle.file_convert.specs.Convert.{convert_outcome}
 
 -- a file, the lent buffer, and what the converter answers and leaves there
 pub record Case : Type 0 where
   pub file : String
   pub buffer : String
-  pub outcome : Outcome Written (List ℕ)
+  pub outcome : Outcome (Result ℕ Rejection) (List ℕ)
 
 -- the case as the definitions have it
 abbrev pub computed : Case → Case
@@ -21,12 +20,12 @@ computed c =
 -- a file that is converted to this one, into a buffer of two bytes more
 abbrev converted : String → ℕ → String → Case
 converted f length new =
-    record { file = f; buffer = "..............."; outcome = Length length leaving (text new ++ text "..") }
+    record { file = f; buffer = "..............."; outcome = Ok length leaving (text new ++ text "..") }
 
 -- a file that is still rejected, with this number and place
 abbrev refused : String → String → ℕ → ℕ → Case
 refused f buffer q p =
-    record { file = f; buffer = buffer; outcome = Rejected (record { number = q; place = p }) leaving text buffer }
+    record { file = f; buffer = buffer; outcome = Err (record { number = q; place = p }) leaving text buffer }
 
 -- the cases that proofs/Cases.antt computes
 abbrev pub cases : List Case

@@ -1,10 +1,8 @@
 -- Each turn decodes one line and stores its bytes behind the ones before.
-use Rattle.prelude.proofs.{◌-◌, length}
+use Rattle.prelude.proofs.{◌*◌}
+use Rattle.file_line.specs.{line_size}
 use Rattle.file_read.proofs.Decoding.{Decoding}
 use Rattle.file_read.proofs.decode.Given as goal
 
-abbrev pub invariant-loop-at : goal.invariant-loop-at
-invariant-loop-at l = Decoding l.file l.table l.at l.lines
-
-abbrev pub decreases-loop-at : goal.decreases-loop-at
-decreases-loop-at l = length l.file - l.at
+abbrev pub invariant-loop-line : goal.invariant-loop-line
+invariant-loop-line l = Decoding l.file l.table (line_size * l.line) l.line

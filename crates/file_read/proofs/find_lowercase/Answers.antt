@@ -1,4 +1,5 @@
 -- Each turn looks at the line that stands at the next position, where the line's twelve bytes are.
+use Rattle.prelude.proofs.{ap, Err}
 use Rattle.prelude.proofs.{◌*◌, sym, ◌∙◌, arith}
 use Rattle.file_line.specs.{line_size}
 use Rattle.file_line.proofs.Positions.{line-part}
@@ -19,7 +20,7 @@ returns-then-has_lowercase c =
     let f = c.args.file.now in
     let stop = lettering-stop f _ c.loop-line.invariant (omega (arith, c.requires.1))
     (rw (← line-part f (line_size * c.loop-line.line)) (sym c.has_lowercase.ensures ∙ c.if-has_lowercase.true)) in
-    c.rejected.ensures ∙ rw stop
+    ap Err c.at.ensures ∙ rw stop
 
 pub loop-line-preserved : goal.loop-line-preserved
 loop-line-preserved c =

@@ -1,8 +1,7 @@
 -- What decoding a file gives.
-use Rattle.std.specs.Prelude.{◌≡◌, not, List, ℕ, ◌*◌, ◌/◌, ◌≤◌, length, take}
+use Rattle.std.specs.Prelude.{◌≡◌, not, List, ℕ, ◌*◌, ◌/◌, ◌≤◌, length, take, Result}
 use Rattle.std.proofs.Math.Option.{Option, none}
 use Rattle.table.specs.declared.Rejection.{Rejection}
-use Rattle.table.specs.declared.Checked.{Checked}
 use Rattle.table.specs.Frame.{frame_size, frames}
 use Rattle.table.specs.Rejection.{ask, ◌and_then◌, answer}
 use Rattle.table.specs.Check.{check1}
@@ -23,10 +22,14 @@ lines_rejection f = check1 f and_then file_check2 f and_then file_check3 f
 
 -- the answer r to questions about a file, where x is the first "no"; if there is none, the table begins with the
 -- bytes that the file's lines stand for
-pub record Decoded (f : List ℕ) (x : Option Rejection) (table : List ℕ) (r : Checked) : Type 0 where
+pub record Decoded (f : List ℕ) (x : Option Rejection) (table : List ℕ) (r : Result ℕ Rejection) : Type 0 where
   pub answered : r ≡ answer (frames (decoded f)) x
   pub filled : x ≡ none → take (length (decoded f)) table ≡ decoded f
 
--- the table has room for the frames of a file's lines
+-- a table of n bytes has room for the frames of a file's lines
+abbrev pub RoomFor : List ℕ → ℕ → Type 0
+RoomFor f n = length f ≤ line_size * (n / frame_size)
+
+-- this table has
 abbrev pub LongEnough : (f table : List ℕ) → Type 0
-LongEnough f table = length f ≤ line_size * (length table / frame_size)
+LongEnough f table = RoomFor f (length table)

@@ -1,8 +1,7 @@
 -- Small files with what the reader gives for them.
-use Rattle.std.specs.Prelude.{ℕ, List, [], ◌∷◌}
+use Rattle.table.specs.declared.Rejection.{Rejection}
+use Rattle.std.specs.Prelude.{ℕ, List, [], ◌∷◌, Result, Ok, Err}
 use Prim.Native.String.{String}
-use Rattle.table.specs.declared.Checked.{Checked}
-use Rattle.table.specs.declared.Checked.TheVariants.{Nodes, Rejected}
 use Rattle.table.specs.Rejection.{Outcome, ◌leaving◌}
 use Rattle.file_line.specs.Results.Text.{text}
 use Rattle.file_read.specs.File.{read_outcome}
@@ -11,7 +10,7 @@ use Rattle.file_read.specs.File.{read_outcome}
 pub record Case : Type 0 where
   pub file : String
   pub table : List ℕ
-  pub outcome : Outcome Checked (List ℕ)
+  pub outcome : Outcome (Result ℕ Rejection) (List ℕ)
 
 -- the case as the definitions have it
 abbrev pub computed : Case → Case
@@ -24,12 +23,12 @@ eight = 9 ∷ 9 ∷ 9 ∷ 9 ∷ 9 ∷ 9 ∷ 9 ∷ 9 ∷ []
 -- a file with a single leaf, which has these bytes 4 and 5, read into the eight bytes
 abbrev leaf : String → ℕ → ℕ → Case
 leaf f high low =
-    record { file = f; table = eight; outcome = Nodes 1 leaving (0 ∷ 0 ∷ 0 ∷ 0 ∷ high ∷ low ∷ 9 ∷ 9 ∷ []) }
+    record { file = f; table = eight; outcome = Ok 1 leaving (0 ∷ 0 ∷ 0 ∷ 0 ∷ high ∷ low ∷ 9 ∷ 9 ∷ []) }
 
 -- a file that is rejected with this number and place
 abbrev refused : String → List ℕ → ℕ → ℕ → Case
 refused f table q p =
-    record { file = f; table = table; outcome = Rejected (record { number = q; place = p }) leaving table }
+    record { file = f; table = table; outcome = Err (record { number = q; place = p }) leaving table }
 
 -- the cases that proofs/Cases.antt computes
 abbrev pub cases : List Case

@@ -11,7 +11,7 @@ pub overflow_mul-nodes : goal.overflow_mul-nodes
 overflow_mul-nodes c = omega (arith, c.requires.1, (accepted-stated _ c.requires.0).most)
 
 pub returns-then-file-nodes : goal.returns-then-file-nodes
-returns-then-file-nodes c = buffer-short _ _ c.requires.0 _ c.requires.1 c.if-file-nodes.true
+returns-then-file-nodes c = rw c.at.ensures (buffer-short _ _ c.requires.0 _ c.requires.1 c.if-file-nodes.true)
 
 -- the table in the code holds the digits of each byte
 pub write_lines-requires-clause-pairs_value : goal.write_lines-requires-clause-pairs_value

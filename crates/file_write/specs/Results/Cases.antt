@@ -1,17 +1,16 @@
 -- Small tables with what the writer gives for them.
-use Rattle.std.specs.Prelude.{ℕ, List, [], ◌∷◌, ◌++◌}
+use Rattle.table.specs.declared.Rejection.{Rejection}
+use Rattle.std.specs.Prelude.{ℕ, List, [], ◌∷◌, ◌++◌, Result, Ok, Err}
 use Prim.Native.String.{String}
 use Rattle.file_line.specs.Results.Text.{text}
 use Rattle.table.specs.Rejection.{Outcome, ◌leaving◌}
-use Rattle.file_write.specs.declared.Written.{Written}
 use Rattle.file_write.specs.Write.{write_outcome}
-use Rattle.file_write.specs.declared.Written.TheVariants.{Length, Rejected}
 
 -- a table, the lent buffer, and what the writer answers and leaves there
 pub record Writing : Type 0 where
   pub table : List ℕ
   pub buffer : List ℕ
-  pub outcome : Outcome Written (List ℕ)
+  pub outcome : Outcome (Result ℕ Rejection) (List ℕ)
 
 -- the same as the definitions have it
 abbrev pub performed : Writing → Writing
@@ -28,13 +27,13 @@ saved table buffer length f =
     record {
       table = table;
       buffer = buffer ++ (9 ∷ 9 ∷ []);
-      outcome = Length length leaving (text f ++ (9 ∷ 9 ∷ []));
+      outcome = Ok length leaving (text f ++ (9 ∷ 9 ∷ []));
     }
 
 -- a table that is rejected with this number and place
 abbrev unsaved : List ℕ → List ℕ → ℕ → ℕ → Writing
 unsaved table buffer q p =
-    record { table = table; buffer = buffer; outcome = Rejected (record { number = q; place = p }) leaving buffer }
+    record { table = table; buffer = buffer; outcome = Err (record { number = q; place = p }) leaving buffer }
 
 -- the tables that proofs/Cases.antt computes
 abbrev pub writings : List Writing

@@ -1,7 +1,6 @@
 -- Small grafts, with what they answer, what the buffer holds then, and the value of the result.
-use Rattle.std.specs.Prelude.{ℕ, zero, suc, ◌+◌, List, [], ◌∷◌, ◌++◌, replicate}
-use Rattle.table.specs.declared.Checked.{Checked}
-use Rattle.table.specs.declared.Checked.TheVariants.{Nodes, Rejected}
+use Rattle.table.specs.declared.Rejection.{Rejection}
+use Rattle.std.specs.Prelude.{ℕ, zero, suc, ◌+◌, List, [], ◌∷◌, ◌++◌, replicate, Result, Ok, Err}
 use Rattle.table.specs.Rejection.{Outcome, ◌leaving◌}
 use Rattle.table.specs.Results.Cases.{leaf_frame, inner_frame, leaves, chain, small, lone, single}
 
@@ -40,12 +39,12 @@ pub record Case : Type 0 where
   pub node : ℕ
   pub second : List ℕ
   pub room : ℕ
-  pub outcome : Outcome Checked (List ℕ)
+  pub outcome : Outcome (Result ℕ Rejection) (List ℕ)
 
 -- a result: the number of nodes and the table, with so many bytes of the buffer behind it
 abbrev pub gives : List ℕ → ℕ → List ℕ → ℕ → ℕ → List ℕ → ℕ → Case
 gives t k u room n table rest =
-    record { first = t; node = k; second = u; room = room; outcome = Nodes n leaving (table ++ buffer rest) }
+    record { first = t; node = k; second = u; room = room; outcome = Ok n leaving (table ++ buffer rest) }
 
 -- a rejection: number and place, with the buffer as it was
 abbrev pub refuses : List ℕ → ℕ → List ℕ → ℕ → ℕ → ℕ → Case
@@ -55,7 +54,7 @@ refuses t k u room q p =
       node = k;
       second = u;
       room = room;
-      outcome = Rejected (record { number = q; place = p }) leaving buffer room;
+      outcome = Err (record { number = q; place = p }) leaving buffer room;
     }
 
 abbrev pub given : List Case

@@ -1,29 +1,28 @@
--- `graft_questions::position_of` meets its contract: each turn goes up to a parent.
-use Rattle.prelude.proofs.{arith}
-use Rattle.table.proofs.Parents.{parent-less}
-use Rattle.graft_questions.proofs.Ascent.{ascent-begins, ascent-step, ascent-ends, ascent-depth}
+-- `graft_questions::position_of` meets its contract: each turn goes up to a parent, or passes one node that is not it.
+use Rattle.prelude.proofs.{suc, ◌-◌, arith, ◌≡◌, sym, ◌∙◌}
+use Rattle.graft_questions.proofs.Ascent.{climb-begins, climb_up, climb-left, climb_ends, ascent-depth}
 use Rattle.graft_questions.proofs.position_of.Goals as goal
 
-pub loop-ancestor-init : goal.loop-ancestor-init
-loop-ancestor-init c = ascent-begins _ _ c.requires.1
+pub loop-candidate-init : goal.loop-candidate-init
+loop-candidate-init c = climb-begins _ c.requires.0 _ c.requires.1
 
 pub child_position-position-requires : goal.child_position-position-requires
-child_position-position-requires c = let d = ascent-depth c.args.table.now c.args.node _ _ c.loop-ancestor.invariant in
-    (omega (arith, c.loop-ancestor.invariant, c.requires), omega (arith, c.requires.0.at_most, c.requires.1))
+child_position-position-requires c =
+    let a = c.loop-candidate.invariant.ascent in
+    let d = ascent-depth c.args.table.now c.args.node _ _ a in
+    (a.inside, omega (arith, c.requires.0.at_most, c.requires.1))
 
-pub parent_of-ancestor-requires : goal.parent_of-ancestor-requires
-parent_of-ancestor-requires c = (c.requires.0, c.loop-ancestor-test.true, c.loop-ancestor.invariant.inside)
+pub loop-candidate-preserved-then-is_child : goal.loop-candidate-preserved-then-is_child
+loop-candidate-preserved-then-is_child c =
+    let e : c.loop-candidate.candidate ≡ suc (c.loop-candidate.candidate - 1) = omega arith in
+    rw c.child_position-position.ensures
+    (climb_up _ c.requires.0 _ _ _ _ (rw e at c.loop-candidate.invariant) (sym c.is_child.ensures ∙ c.if-is_child.true))
 
-pub loop-ancestor-smaller : goal.loop-ancestor-smaller
-loop-ancestor-smaller c = omega (
-  arith,
-  c.parent_of-ancestor.ensures,
-  parent-less c.args.table.now c.loop-ancestor.ancestor c.loop-ancestor-test.true,
-)
-
-pub loop-ancestor-preserved : goal.loop-ancestor-preserved
-loop-ancestor-preserved c = rw (c.child_position-position.ensures, c.parent_of-ancestor.ensures)
-    (ascent-step _ _ _ _ c.loop-ancestor-test.true c.loop-ancestor.invariant)
+pub loop-candidate-preserved : goal.loop-candidate-preserved
+loop-candidate-preserved c =
+    let e : c.loop-candidate.candidate ≡ suc (c.loop-candidate.candidate - 1) = omega arith in
+    climb-left _ c.requires.0 _ _ _ _ (rw e at c.loop-candidate.invariant)
+    (sym c.is_child.ensures ∙ c.if-is_child.false)
 
 pub returns : goal.returns
-returns c = ascent-ends _ _ _ _ c.loop-ancestor-test.false c.loop-ancestor.invariant
+returns c = climb_ends _ c.requires.0 _ _ _ _ (omega arith) c.loop-candidate.invariant

@@ -1,8 +1,9 @@
 -- Four scores, tried in this order: the first that reaches the wanted one is the smallest that does. They are that of
 -- -32,000 and those of the values that are worth the wanted one as a loss, as they are, and as a win.
-use Rattle.std.specs.Prelude.{ℕ, zero, suc, ◌+◌, ◌-◌, Bool, cond, ◌&&◌, ltb, eqb}
-use Rattle.std.proofs.Math.Option.{Option, none, some}
-use Rattle.gametree.specs.Trees.{least, greatest}
+use Rattle.std.specs.Prelude.{ℕ, ◌+◌, ◌-◌, Bool, ◌&&◌, Option, Some, None, [], ◌∷◌, leb, ltb, eqb}
+use Rattle.std.specs.List.{find}
+use Rattle.std.proofs.Math.Option as M
+use Rattle.gametree.specs.Trees.{greatest}
 use Rattle.gametree.specs.AlphaBeta.{clamp}
 use Rattle.table.specs.Tree.{leaf_score}
 
@@ -18,15 +19,15 @@ score_count = 64001
 abbrev pub reaches : (l u d w s : ℕ) → Bool
 reaches l u d w s = eqb (clamp l u (leaf_score d s)) w
 
--- the first candidate that reaches w; `least`, which no leaf holds, where none does
-abbrev pub candidate : (l u d w : ℕ) → ℕ
-candidate l u d w =
-    cond (reaches l u d w first_score) first_score
-    (cond (ltb d w && reaches l u d w (w - d)) (w - d)
-    (cond (reaches l u d w w) w
-    (cond (ltb (w + d) greatest && reaches l u d w (w + d)) (w + d) least)))
+-- the same, where a leaf can hold s
+abbrev pub held_reaches : (l u d w s : ℕ) → Bool
+held_reaches l u d w s = (leb first_score s && ltb s greatest) && reaches l u d w s
 
--- a score, if it is one that a leaf holds
-abbrev pub held : ℕ → Option ℕ
-held zero = none
-held (suc s) = some (suc s)
+-- the first candidate that a leaf can hold and that reaches w
+abbrev pub candidate : (l u d w : ℕ) → Option ℕ
+candidate l u d w = find (held_reaches l u d w) (first_score ∷ (w - d) ∷ w ∷ (w + d) ∷ [])
+
+-- what is found, in the words of `smallest`
+abbrev pub as_option : Option ℕ → M.Option ℕ
+as_option None = M.none
+as_option (Some s) = M.some s

@@ -2,7 +2,7 @@
 -- recursion is the number of frames after the node, that of the loop the number of children left.
 use Rattle.prelude.proofs.{◌-◌}
 use Rattle.table.specs.{frames}
-use Rattle.mtd_memory.specs.{memory}
+use Rattle.mtd_memory.specs.{memory_of, SameArrays}
 use Rattle.mtd_memory.proofs.Turns.{PassLoop}
 use Rattle.mtd_memory.proofs.Skips.{Trying}
 use Rattle.mtd.proofs.+enter.Given as goal
@@ -10,11 +10,12 @@ use Rattle.mtd.proofs.+enter.Given as goal
 abbrev pub decreases-enter : goal.decreases-enter
 decreases-enter l = frames l.table.now - l.node
 
-abbrev pub invariant-loop-child : goal.invariant-loop-child
-invariant-loop-child l =
-    let m = memory l.fn.leaves l.fn.evaluated l.fn.order l.fn.highs l.fn.not_below in
-    let m' = memory l.leaves l.evaluated l.order l.highs l.not_below in
-    PassLoop l.table l.side l.test l.first l.end m m' l.child × Trying l.first l.end l.tries m m' l.child
+abbrev pub invariant-loop-next : goal.invariant-loop-next
+invariant-loop-next l =
+    let m = memory_of l.fn.memory in
+    let m' = memory_of l.memory in
+    PassLoop l.table l.side l.test l.first l.end m m' l.child
+    × Trying l.first l.end l.tries m m' l.child × SameArrays l.fn.memory l.memory
 
-abbrev pub decreases-loop-child : goal.decreases-loop-child
-decreases-loop-child l = l.end - l.child
+abbrev pub decreases-loop-next : goal.decreases-loop-next
+decreases-loop-next l = l.end - l.child

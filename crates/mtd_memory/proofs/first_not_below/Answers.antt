@@ -1,33 +1,26 @@
--- `mtd::first_not_below` meets its contract: each node that was passed is below.
-use Rattle.prelude.proofs.{ℕ, ◌+◌, ◌≤◌, ◌<◌, arith, ℕ_discrete}
+-- `first_not_below` meets its contract: each node before the one that is found is below, or each.
+use Rattle.prelude.proofs.{◌-◌, ◌≤◌, ◌<◌, arith, rules, length-take, length-drop}
+use Rattle.std.proofs.Common.{tests, get_or-drop, get_or-take}
+use Rattle.std.proofs.lemmas.Iterator.{IsFirst-from_position, YieldsList-from_slice}
+use Rattle.std.proofs.option.Match.{if_some, if_none}
 use Rattle.mtd_memory.proofs.first_not_below.Goals as goal
 
-below_more : (f : ℕ → ℕ) (from n γ : ℕ) → ((k : ℕ) → from ≤ k → k < n → f k < γ) → f n < γ
-    → (k : ℕ) → from ≤ k → k < n + 1 → f k < γ
-below_more f from n γ h i k a b =
-    elim (ℕ_discrete k n) [
-      | yes e ↦ rw e i
-      | no e ↦ h k a (omega arith)
-    ]
+pub returns-in_err-place-clause-by_index : goal.returns-in_err-place-clause-by_index
+returns-in_err-place-clause-by_index c = λ k a b.
+    let γ = c.args.test in
+    let first = if_none _ _ c.in_err-place.was
+    (IsFirst-from_position _ _ _ (λ x. γ ≤ x) (λ x. x < γ) c.position.ensures.ran
+    (YieldsList-from_slice _ c.iter.ensures.rest) (λ x q k. search (rules, tests)) (λ x q k. search (rules, tests))) in
+    let l : k < c.args.nodes.end = rw c.from_residual.ensures at b in
+    let at = first (k - c.args.nodes.start) 0 (omega arith) (grind (arith, length-take, length-drop)) in
+    grind (arith, get_or-take, get_or-drop)
 
-pub loop-node-init : goal.loop-node-init
-loop-node-init c = (omega arith, omega arith, λ k a b. absurd (omega arith))
-
-pub returns-then-test-highs : goal.returns-then-test-highs
-returns-then-test-highs c = record {
-  lower_bound = (c.loop-node.invariant.0, c.loop-node.invariant.1);
-  by_index = c.loop-node.invariant.2;
-}
-
-pub loop-node-preserved : goal.loop-node-preserved
-loop-node-preserved c = (
-  omega (arith, c.loop-node.invariant.0),
-  omega arith,
-  below_more _ _ _ _ c.loop-node.invariant.2 c.if-test-highs.false,
-)
-
-pub returns : goal.returns
-returns c = record {
-  lower_bound = (c.loop-node.invariant.0, c.loop-node.invariant.1);
-  by_index = c.loop-node.invariant.2;
-}
+pub returns-clause-by_index : goal.returns-clause-by_index
+returns-clause-by_index c = λ k a b.
+    let γ = c.args.test in
+    let first = if_some _ _ _ c.in_ok-place.was
+    (IsFirst-from_position _ _ _ (λ x. γ ≤ x) (λ x. x < γ) c.position.ensures.ran
+    (YieldsList-from_slice _ c.iter.ensures.rest) (λ x q k. search (rules, tests)) (λ x q k. search (rules, tests))) in
+    let at = first.2 (k - c.args.nodes.start) 0 (omega arith) (omega arith) in
+    let within = first.0 in
+    grind (arith, get_or-take, get_or-drop)

@@ -1,7 +1,8 @@
 -- MTD's memory as the engine keeps it, a count, the list of leaves and three arrays over the node numbers, and what a
 -- visit of a node asks of it and does to it.
 use Rattle.std.specs.Prelude.{ℕ, zero, suc, ◌+◌, ◌-◌, ◌*◌, ◌/◌, ◌%◌, ◌≤◌, ◌<◌, ◌≡◌, Bool, true, false, cond, List}
-use Rattle.std.specs.Prelude.{eqb, length, get_or}
+use Rattle.std.specs.Prelude.{eqb, length, get_or, Option, Some, None}
+use Rattle.std.specs.declared.ops.Range.{Range}
 use Rattle.gametree.specs.declared.Position.{Position}
 use Rattle.gametree.specs.declared.Side.{Side}
 use Rattle.gametree.specs.declared.Side.TheVariants.{Max, Min}
@@ -18,10 +19,8 @@ use Rattle.certificate_bounds.specs.Engine.Progress.{Progress, progress, evaluat
 use Rattle.certificate_bounds.specs.Engine.Bounds.{bound_of}
 use Rattle.certificate_bounds.specs.Engine.Ranges.{best_in}
 use Rattle.certificate_flags.specs.Engine.Chosen.{first_equal}
-use Rattle.mtd_memory.specs.declared.Seen.{Seen}
-use Rattle.mtd_memory.specs.declared.Seen.TheVariants.{Answered, Open}
-use Rattle.mtd_memory.specs.declared.Tried.{Tried}
-use Rattle.mtd_memory.specs.declared.Tries.{Tries}
+use Rattle.certificate_bounds.specs.Engine.Evaluations.{SameBuffers}
+use Rattle.mtd_memory.specs.declared.Memory.{Memory as Lent}
 use Rattle.mtd_memory.specs.declared.TwoBest.{TwoBest}
 
 -- how many leaves are evaluated, their marks, the list of them, the high of each node, and an entry for each inner
@@ -37,6 +36,26 @@ pub record Memory : Type 0 where
 -- the memory of a count and four arrays
 abbrev pub memory : ℕ → (e o h n : List ℕ) → Memory
 memory k e o h n = record { leaves = k; evaluated = e; order = o; highs = h; not_below = n }
+
+-- the memory that a struct of lent buffers holds
+abbrev pub memory_of : Lent → Memory
+memory_of m =
+    let e = m.evaluations.now in memory e.leaves e.marks.now e.order.now m.highs.now m.not_below.now
+
+-- each array keeps its length
+pub record Long (m m' : Memory) : Type 0 where
+  pub evaluated : length m'.evaluated ≡ length m.evaluated
+  pub order : length m'.order ≡ length m.order
+  pub highs : length m'.highs ≡ length m.highs
+  pub not_below : length m'.not_below ≡ length m.not_below
+
+-- all of it is in the same lent buffers before and after, which keep their lengths
+pub record SameArrays (before after : Lent) : Type 0 where
+  pub evaluations : after.evaluations.ghost_name ≡ before.evaluations.ghost_name
+  pub buffers : SameBuffers before.evaluations.now after.evaluations.now
+  pub highs : after.highs.ghost_name ≡ before.highs.ghost_name
+  pub not_below : after.not_below.ghost_name ≡ before.not_below.ghost_name
+  pub long : Long (memory_of before) (memory_of after)
 
 -- how far the evaluation of leaves has come
 abbrev pub progress_of : Memory → Progress
@@ -89,6 +108,10 @@ pub record NamesTwo (highs : List ℕ) (first end x : ℕ) : Type 0 where
 abbrev pub lead_entry : (lead second : ℕ) → ℕ
 lead_entry lead second = cond (eqb lead second) 0 ((lead + 1) * 256 + second)
 
+-- the nodes of the range r are children of one node: some, at most 255, and each has a high
+abbrev pub Siblings : List ℕ → Range ℕ → Type 0
+Siblings highs r = (r.start < r.end) × (r.end ≤ length highs) × (r.end ≤ r.start + 255)
+
 -- the two best of the children so far
 pub record Best (highs : List ℕ) (first end : ℕ) (two : TwoBest) : Type 0 where
   pub lead-from : first ≤ two.lead
@@ -123,20 +146,20 @@ pub record FoundBelow (highs : List ℕ) (first end child : ℕ) : Type 0 where
   pub best : best_in Min (λ k. get_or highs k 0) first (end - (first + 1)) ≡ get_or highs (child - 1) 0
 
 -- the children that a pass with the test γ has to try, by the entry x: of a Max node all others are below the test
-pub record ToTry (s : Side) (highs : List ℕ) (γ first end x : ℕ) (r : Tries) : Type 0 where
-  pub start : first ≤ r.from
-  pub some : r.from < r.to
-  pub within : r.to ≤ end
-  pub skips : s ≡ Min → (r.from ≡ first + (x - 1)) × (r.to ≡ end)
-  pub outside : s ≡ Max → (k : ℕ) → first ≤ k → k < end → (r.from ≤ k → k < r.to → ⊥) → get_or highs k 0 < γ
-  pub alone : s ≡ Max → 256 ≤ x → r.from + 1 ≡ r.to → r.to ≡ first + x / 256
+pub record ToTry (s : Side) (highs : List ℕ) (γ first end x : ℕ) (r : Range ℕ) : Type 0 where
+  pub start : first ≤ r.start
+  pub some : r.start < r.end
+  pub within : r.end ≤ end
+  pub skips : s ≡ Min → (r.start ≡ first + (x - 1)) × (r.end ≡ end)
+  pub outside : s ≡ Max → (k : ℕ) → first ≤ k → k < end → (r.start ≤ k → k < r.end → ⊥) → get_or highs k 0 < γ
+  pub alone : s ≡ Max → 256 ≤ x → r.start + 1 ≡ r.end → r.end ≡ first + x / 256
 
 -- where one child alone was tried, it is the leading one that the entry x names
-pub record Alone (highs : List ℕ) (first end x : ℕ) (r : Tries) : Type 0 where
-  pub some : r.from < r.to
-  pub within : r.to ≤ end
-  pub alone : 256 ≤ x → r.from + 1 ≡ r.to → r.to ≡ first + x / 256
-  pub leads : 256 ≤ x → r.from + 1 ≡ r.to → NamesTwo highs first end x
+pub record Alone (highs : List ℕ) (first end x : ℕ) (r : Range ℕ) : Type 0 where
+  pub some : r.start < r.end
+  pub within : r.end ≤ end
+  pub alone : 256 ≤ x → r.start + 1 ≡ r.end → r.end ≡ first + x / 256
+  pub leads : 256 ≤ x → r.start + 1 ≡ r.end → NamesTwo highs first end x
 
 -- what a node with the answer b keeps of its children: the best high v, and the entry x
 pub record KeepsBest (s : Side) (b : Bool) (highs : List ℕ) (first end child v x : ℕ) : Type 0 where
@@ -171,8 +194,8 @@ pub record Evaluated (m m' : Memory) (w : List ℕ) : Type 0 where
   pub all : progress_of m' ≡ evaluate_all (progress_of m) w
 
 -- what a visit of the root of the tree T does: the pass, and nothing to nodes outside the tree
-pub record Passed (t : List ℕ) (T : Tree) (γ : ℕ) (m m' : Memory) (r : Tried) : Type 0 where
-  pub answer : r.answer ≡ (pass_of t γ m T).not_below
+pub record Passed (t : List ℕ) (T : Tree) (γ : ℕ) (m m' : Memory) (r : Bool) : Type 0 where
+  pub answer : r ≡ (pass_of t γ m T).not_below
   pub evaluated : Evaluated m m' (pass_of t γ m T).evaluated
   pub counted : Counted t m'
   pub memo :
@@ -183,11 +206,15 @@ pub record Passed (t : List ℕ) (T : Tree) (γ : ℕ) (m m' : Memory) (r : Trie
   pub skips : SkipsRight t m' T
   pub flags : (k : ℕ) → (In k T → ⊥) → get_or m'.not_below k 0 ≡ get_or m.not_below k 0
 
--- what a look at node i does, which leaves the memory m' with a count: the pass, where the node is answered; nothing,
--- where it is to be entered
-abbrev pub Looked : (t : List ℕ) (i γ : ℕ) (m : Memory) (m' : ℕ → Memory) → Seen → Type 0
-Looked t i γ m m' (Answered r) = Passed t (tree_at t i) γ m (m' r.leaves) r
-Looked t i γ m m' Open = (m' m.leaves ≡ m) × Enterable t m i γ
+-- what a look at node i does: the pass, where the node is answered; nothing, where it is to be entered
+abbrev pub Looked : (t : List ℕ) (i γ : ℕ) (m m' : Memory) → Option Bool → Type 0
+Looked t i γ m m' (Some r) = Passed t (tree_at t i) γ m m' r
+Looked t i γ m m' None = (m' ≡ m) × Enterable t m i γ
+
+-- the place that is found; the end where there is none
+abbrev pub place_or : ℕ → Option ℕ → ℕ
+place_or end (Some k) = k
+place_or end None = end
 
 -- the children from `from` up to r are passed over: they are below the test by their highs, and their parent is Max
 pub record PassedOver (s : Side) (highs : List ℕ) (γ from end r : ℕ) : Type 0 where

@@ -2,14 +2,16 @@
 -- leaf.
 use Rattle.prelude.proofs.{◌-◌}
 use Rattle.table.specs.{frames}
-use Rattle.mtdf_visits.specs.{memory}
+use Rattle.mtdf_visits.specs.{memory_of, SameBuffers}
 use Rattle.mtdf.proofs.Runs.{Driving}
 use Rattle.mtdf.proofs.drive.Given as goal
 
-abbrev pub invariant-loop-root : goal.invariant-loop-root
-invariant-loop-root l =
-    Driving l.table l.guess (memory 0 l.fn.evaluated l.fn.order l.fn.lows l.fn.highs)
-    (memory l.leaves l.evaluated l.order l.lows l.highs) l.wish l.tests
+abbrev pub invariant-loop-bounds : goal.invariant-loop-bounds
+invariant-loop-bounds l =
+    record {
+      driving : Driving l.table l.guess (memory_of l.fn.bounds) (memory_of l.bounds) l.wish l.tests;
+      same_buffers : SameBuffers l.fn.bounds l.bounds;
+    }
 
-abbrev pub decreases-loop-root : goal.decreases-loop-root
-decreases-loop-root l = frames l.table - l.leaves
+abbrev pub decreases-loop-bounds : goal.decreases-loop-bounds
+decreases-loop-bounds l = frames l.table - l.bounds.evaluations.now.leaves

@@ -1,6 +1,6 @@
 -- The memory of MTD(f) as the engine keeps it, a count, the list of leaves and three arrays over the node numbers, and
 -- what a test of a node asks of it and does to it.
-use Rattle.std.specs.Prelude.{ℕ, ◌≤◌, ◌<◌, ◌≡◌, false, List, ◌++◌, leb, length, get_or, take}
+use Rattle.std.specs.Prelude.{ℕ, ◌≤◌, ◌<◌, ◌≡◌, Bool, false, Option, None, Some, List, ◌++◌, leb, length, get_or, take}
 use Rattle.lists.specs.Lists.{among}
 use Rattle.gametree.specs.declared.Position.{Position}
 use Rattle.gametree.specs.Trees.{Tree, leaf, inner, least, greatest, In}
@@ -12,9 +12,6 @@ use Rattle.table.specs.Tree.{tree_at, valuation}
 use Rattle.table.specs.Formed.{WellFormed}
 use Rattle.certificate_bounds.specs.Marks.{marked, ones}
 use Rattle.certificate_bounds.specs.Engine.Progress.{Progress, progress, evaluate_all}
-use Rattle.mtdf_visits.specs.declared.Seen.{Seen}
-use Rattle.mtdf_visits.specs.declared.Seen.TheVariants.{Answered, Open}
-use Rattle.mtdf_visits.specs.declared.Tried.{Tried}
 
 -- how many leaves are evaluated, their marks, the list of them, and the low and the high of each node
 pub record Memory : Type 0 where
@@ -42,6 +39,13 @@ pub record MemoryRoom (n : ℕ) (m : Memory) : Type 0 where
   pub order : n ≤ length m.order
   pub lows : n ≤ length m.lows
   pub highs : n ≤ length m.highs
+
+-- each array is as long as it was
+pub record Long (m m' : Memory) : Type 0 where
+  pub evaluated : length m'.evaluated ≡ length m.evaluated
+  pub order : length m'.order ≡ length m.order
+  pub lows : length m'.lows ≡ length m.lows
+  pub highs : length m'.highs ≡ length m.highs
 
 -- the two entries of node k are the bounds that the leaves evaluated so far give it
 pub record Bounded (t : List ℕ) (m : Memory) (k : ℕ) : Type 0 where
@@ -79,8 +83,8 @@ pub record Same (m m' : Memory) (k : ℕ) : Type 0 where
 
 -- the test or the entering of the root of the tree T that gives q is done: its answer is the result, its leaves were
 -- evaluated, the bounds in the tree follow, and nothing has changed outside
-pub record Done (t : List ℕ) (T : Tree) (q : Tested) (m m' : Memory) (r : Tried) : Type 0 where
-  pub answer : r.answer ≡ q.not_below
+pub record Done (t : List ℕ) (T : Tree) (q : Tested) (m m' : Memory) (r : Bool) : Type 0 where
+  pub answer : r ≡ q.not_below
   pub evaluated : Evaluated m m' q.evaluated
   pub counted : Counted t m'
   pub right : BoundsRight t m' T
@@ -91,10 +95,10 @@ abbrev pub entered_test : (ℕ → ℕ) → ℕ → List ℕ → Tree → Tested
 entered_test ν γ w (leaf n) = opened n (leb γ (ν n))
 entered_test ν γ w (inner n s ks) = test_children ν γ w s ks
 
-abbrev pub VisitedBy : (t : List ℕ) (T : Tree) (γ : ℕ) (m m' : Memory) (r : Tried) → Type 0
+abbrev pub VisitedBy : (t : List ℕ) (T : Tree) (γ : ℕ) (m m' : Memory) (r : Bool) → Type 0
 VisitedBy t T γ m m' r = Done t T (test (valuation t) γ (so_far m) T) m m' r
 
-abbrev pub Entered : (t : List ℕ) (T : Tree) (γ : ℕ) (m m' : Memory) (r : Tried) → Type 0
+abbrev pub Entered : (t : List ℕ) (T : Tree) (γ : ℕ) (m m' : Memory) (r : Bool) → Type 0
 Entered t T γ m m' r = Done t T (entered_test (valuation t) γ (so_far m) T) m m' r
 
 -- node i is entered by the test γ: it has children, its high is not below the test, and its low is
@@ -103,11 +107,10 @@ pub record Undecided (t : List ℕ) (m : Memory) (i γ : ℕ) : Type 0 where
   pub high : γ ≤ get_or m.highs i 0
   pub low : get_or m.lows i 0 < γ
 
--- what a look at node i does, which leaves the memory m' with a count: the test, where the node is answered; nothing,
--- where it is to be entered
-abbrev pub Looked : (t : List ℕ) (i γ : ℕ) (m : Memory) (m' : ℕ → Memory) → Seen → Type 0
-Looked t i γ m m' (Answered r) = VisitedBy t (tree_at t i) γ m (m' r.leaves) r
-Looked t i γ m m' Open = (m' m.leaves ≡ m) × Undecided t m i γ
+-- what a look at node i does: the test, where the node is answered; nothing, where it is to be entered
+abbrev pub Looked : (t : List ℕ) (i γ : ℕ) (m m' : Memory) → Option Bool → Type 0
+Looked t i γ m m' (Some r) = VisitedBy t (tree_at t i) γ m m' r
+Looked t i γ m m' None = (m' ≡ m) × Undecided t m i γ
 
 -- what the tests ask: nothing is evaluated, and the bounds are the least and the greatest
 pub record Fresh (t : List ℕ) (m : Memory) : Type 0 where

@@ -2,9 +2,8 @@
 -- that are left make of score and marks what the turn is to give.
 use Rattle.std.proofs.Common.{◌∙◌, sym, arith}
 use Rattle.gametree.specs.declared.Side.TheVariants.{Max, Min}
-use Rattle.table.specs.{ChildOf}
 use Rattle.table.proofs.Next.{child-within}
-use Rattle.plain.proofs.Turns.{Gives, leaf-evaluable, leaf-gives, turn-starts, inner-left, ready-child}
+use Rattle.plain.proofs.Turns.{Gives, leaf-evaluable, leaf-gives, turn-starts, turn-child, inner-left, ready-child}
 use Rattle.plain.proofs.Turns.{turn-goes-on, turn-ends}
 use Rattle.plain.proofs.+max_turn_min_turn.Goals as goal
 use Rattle.plain.proofs.+max_turn_min_turn.Goals.{max_turn-in-Max, max_turn-in-Min}
@@ -25,54 +24,33 @@ max_turn-overflow_sub-below t c = omega (arith, inner-left _ _ Max _ _ c.require
 
 pub max_turn-loop-child-init : goal.max_turn-loop-child-init
 max_turn-loop-child-init t c =
-    turn-starts _ _ Max _ _ c.requires _ _ _ (omega arith) c.first_child-child.ensures.0 (omega arith) (omega arith)
+    turn-starts _ _ Max _ _ c.requires _ _ (omega arith) c.first_child-first.ensures.0 (omega arith)
 
 pub max_turn-child_side-requires : goal.max_turn-child_side-requires
 max_turn-child_side-requires t c =
-    -- the loop is at a child of the node
-    let child : ChildOf c.args.table.now c.args.node c.loop-child.child =
-    record {
-      from = omega (arith, c.loop-child.invariant.from, c.first_child-child.ensures);
-      to = omega (arith, c.first_child-child.ensures, c.child_count-count.ensures);
-    } in
-    child-within _ c.requires.searchable.formed c.requires.searchable.inside child
+    let r = c.requires.searchable in
+    child-within _ r.formed r.inside (turn-child c.loop-child.invariant (omega arith))
 
 pub max_turn-max_turn-answer-requires : goal.max_turn-max_turn-answer-requires
 max_turn-max_turn-answer-requires t c =
-    -- the loop is at a child of the node
-    let child : ChildOf c.args.table.now c.args.node c.loop-child.child =
-    record {
-      from = omega (arith, c.loop-child.invariant.from, c.first_child-child.ensures);
-      to = omega (arith, c.first_child-child.ensures, c.child_count-count.ensures);
-    } in
-    let i = c.loop-child.invariant in (
-      omega (arith, inner-left _ _ Max _ _ c.requires (omega (arith, child.from, child.to))),
+    let i = c.loop-child.invariant in
+    let child = turn-child i (omega arith) in (
+      omega (arith, inner-left _ _ Max _ _ c.requires (omega arith)),
       ready-child _ _ Max _ _ c.requires _ Max _ child (sym c.in-Max.is ∙ c.child_side.ensures) i.kept
           (i.unvisited _ (omega arith) child),
     )
 
 pub max_turn-min_turn-answer-requires : goal.max_turn-min_turn-answer-requires
 max_turn-min_turn-answer-requires t c =
-    -- the loop is at a child of the node
-    let child : ChildOf c.args.table.now c.args.node c.loop-child.child =
-    record {
-      from = omega (arith, c.loop-child.invariant.from, c.first_child-child.ensures);
-      to = omega (arith, c.first_child-child.ensures, c.child_count-count.ensures);
-    } in
-    let i = c.loop-child.invariant in (
-      omega (arith, inner-left _ _ Max _ _ c.requires (omega (arith, child.from, child.to))),
+    let i = c.loop-child.invariant in
+    let child = turn-child i (omega arith) in (
+      omega (arith, inner-left _ _ Max _ _ c.requires (omega arith)),
       ready-child _ _ Max _ _ c.requires _ Min _ child (sym c.in-Min.is ∙ c.child_side.ensures) i.kept
           (i.unvisited _ (omega arith) child),
     )
 
 pub max_turn-loop-child-preserved : goal.max_turn-loop-child-preserved
 max_turn-loop-child-preserved t c =
-    -- the loop is at a child of the node
-    let child : ChildOf c.args.table.now c.args.node c.loop-child.child =
-    record {
-      from = omega (arith, c.loop-child.invariant.from, c.first_child-child.ensures);
-      to = omega (arith, c.first_child-child.ensures, c.child_count-count.ensures);
-    } in
     -- the turn of either side gives what is due for the child
     let given : Gives c.args.table.now c.loop-child.child c.loop-child.evaluated c.match-child_side.evaluated
     c.match-child_side.answer =
@@ -82,13 +60,13 @@ max_turn-loop-child-preserved t c =
       | max_turn-in-Min w ↦ let e = w.min_turn-answer.ensures in
           (w.answer-is ∙ e.value, w.evaluated-is ∙ e.evaluated_after)
     ] in
-    turn-goes-on _ _ Max _ _ c.requires _ _ _ _ _ c.loop-child.invariant child (omega arith) _ _ _ given
-    c.better-greatest.ensures
+    turn-goes-on _ _ Max _ _ c.requires _ _ _ c.loop-child.invariant (turn-child c.loop-child.invariant (omega arith))
+    _ _ _ given c.max-greatest.ensures
 
 pub max_turn-returns : goal.max_turn-returns
 max_turn-returns t c =
     let g : Gives c.args.table.now c.args.node c.args.evaluated.now c.loop-child.evaluated c.loop-child.greatest =
-    turn-ends _ _ Max _ _ c.requires _ _ _ _ _ c.loop-child.invariant (omega arith) in
+    turn-ends _ _ Max _ _ c.requires _ _ _ c.loop-child.invariant (omega arith) in
     record { value = g.0; evaluated_after = g.1 }
 
 pub min_turn-evaluate-requires : goal.min_turn-evaluate-requires
@@ -106,54 +84,33 @@ min_turn-overflow_sub-left_below t c = omega (arith, inner-left _ _ Min _ _ c.re
 
 pub min_turn-loop-child-init : goal.min_turn-loop-child-init
 min_turn-loop-child-init t c =
-    turn-starts _ _ Min _ _ c.requires _ _ _ (omega arith) c.first_child-child.ensures.0 (omega arith) (omega arith)
+    turn-starts _ _ Min _ _ c.requires _ _ (omega arith) c.first_child-first.ensures.0 (omega arith)
 
 pub min_turn-child_side-requires : goal.min_turn-child_side-requires
 min_turn-child_side-requires t c =
-    -- the loop is at a child of the node
-    let child : ChildOf c.args.table.now c.args.node c.loop-child.child =
-    record {
-      from = omega (arith, c.loop-child.invariant.from, c.first_child-child.ensures);
-      to = omega (arith, c.first_child-child.ensures, c.child_count-count.ensures);
-    } in
-    child-within _ c.requires.searchable.formed c.requires.searchable.inside child
+    let r = c.requires.searchable in
+    child-within _ r.formed r.inside (turn-child c.loop-child.invariant (omega arith))
 
 pub min_turn-max_turn-answer-requires : goal.min_turn-max_turn-answer-requires
 min_turn-max_turn-answer-requires t c =
-    -- the loop is at a child of the node
-    let child : ChildOf c.args.table.now c.args.node c.loop-child.child =
-    record {
-      from = omega (arith, c.loop-child.invariant.from, c.first_child-child.ensures);
-      to = omega (arith, c.first_child-child.ensures, c.child_count-count.ensures);
-    } in
-    let i = c.loop-child.invariant in (
-      omega (arith, inner-left _ _ Min _ _ c.requires (omega (arith, child.from, child.to))),
+    let i = c.loop-child.invariant in
+    let child = turn-child i (omega arith) in (
+      omega (arith, inner-left _ _ Min _ _ c.requires (omega arith)),
       ready-child _ _ Min _ _ c.requires _ Max _ child (sym c.in-Max.is ∙ c.child_side.ensures) i.kept
           (i.unvisited _ (omega arith) child),
     )
 
 pub min_turn-min_turn-answer-requires : goal.min_turn-min_turn-answer-requires
 min_turn-min_turn-answer-requires t c =
-    -- the loop is at a child of the node
-    let child : ChildOf c.args.table.now c.args.node c.loop-child.child =
-    record {
-      from = omega (arith, c.loop-child.invariant.from, c.first_child-child.ensures);
-      to = omega (arith, c.first_child-child.ensures, c.child_count-count.ensures);
-    } in
-    let i = c.loop-child.invariant in (
-      omega (arith, inner-left _ _ Min _ _ c.requires (omega (arith, child.from, child.to))),
+    let i = c.loop-child.invariant in
+    let child = turn-child i (omega arith) in (
+      omega (arith, inner-left _ _ Min _ _ c.requires (omega arith)),
       ready-child _ _ Min _ _ c.requires _ Min _ child (sym c.in-Min.is ∙ c.child_side.ensures) i.kept
           (i.unvisited _ (omega arith) child),
     )
 
 pub min_turn-loop-child-preserved : goal.min_turn-loop-child-preserved
 min_turn-loop-child-preserved t c =
-    -- the loop is at a child of the node
-    let child : ChildOf c.args.table.now c.args.node c.loop-child.child =
-    record {
-      from = omega (arith, c.loop-child.invariant.from, c.first_child-child.ensures);
-      to = omega (arith, c.first_child-child.ensures, c.child_count-count.ensures);
-    } in
     -- the turn of either side gives what is due for the child
     let given : Gives c.args.table.now c.loop-child.child c.loop-child.evaluated c.match-child_side.evaluated
     c.match-child_side.answer =
@@ -163,11 +120,11 @@ min_turn-loop-child-preserved t c =
       | min_turn-in-Min w ↦ let e = w.min_turn-answer.ensures in
           (w.answer-is ∙ e.value, w.evaluated-is ∙ e.evaluated_after)
     ] in
-    turn-goes-on _ _ Min _ _ c.requires _ _ _ _ _ c.loop-child.invariant child (omega arith) _ _ _ given
-    c.better-least.ensures
+    turn-goes-on _ _ Min _ _ c.requires _ _ _ c.loop-child.invariant (turn-child c.loop-child.invariant (omega arith))
+    _ _ _ given c.min-least.ensures
 
 pub min_turn-returns : goal.min_turn-returns
 min_turn-returns t c =
     let g : Gives c.args.table.now c.args.node c.args.evaluated.now c.loop-child.evaluated c.loop-child.least =
-    turn-ends _ _ Min _ _ c.requires _ _ _ _ _ c.loop-child.invariant (omega arith) in
+    turn-ends _ _ Min _ _ c.requires _ _ _ c.loop-child.invariant (omega arith) in
     record { value = g.0; evaluated_after = g.1 }

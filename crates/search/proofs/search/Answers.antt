@@ -22,20 +22,20 @@ run-requires c =
     let l = lent c.args.evaluated.now c.args.certificate.now c.args.order.now in
     -- what the questions answer: the shortest buffer stands for all
     let told : c.ask.result ≡ asked c.args.table.now (lengths l) =
-    of-least _ _ _ _ c.ask.ensures c.lesser-shortest.ensures c.lesser.ensures in
-    let r = nodes-long-enough _ (lengths l) _ (sym c.in-Nodes.is ∙ told) in
+    of-least _ _ _ _ c.ask.ensures c.min-shortest.ensures c.min.ensures in
+    let r = nodes-long-enough _ (lengths l) _ (sym c.in-Ok.is ∙ told) in
     record { well_formed = r.0; table_in_bounds = (r.1.0, r.1.1.0, r.1.1.1.0) }
 
-pub returns-in-Nodes : goal.returns-in-Nodes
-returns-in-Nodes c =
+pub returns-in-Ok : goal.returns-in-Ok
+returns-in-Ok c =
     let l = lent c.args.evaluated.now c.args.certificate.now c.args.order.now in
     let told : c.ask.result ≡ asked c.args.table.now (lengths l) =
-    of-least _ _ _ _ c.ask.ensures c.lesser-shortest.ensures c.lesser.ensures in
-    finding c.args.table.now (lengths l) (refused l) _ _ _ (sym c.in-Nodes.is ∙ told) c.run.ensures
+    of-least _ _ _ _ c.ask.ensures c.min-shortest.ensures c.min.ensures in
+    finding c.args.table.now (lengths l) (refused l) _ _ _ (sym c.in-Ok.is ∙ told) c.run.ensures
 
-pub returns-in-Rejected : goal.returns-in-Rejected
-returns-in-Rejected c =
+pub returns-in-Err : goal.returns-in-Err
+returns-in-Err c =
     let l = lent c.args.evaluated.now c.args.certificate.now c.args.order.now in
     let told : c.ask.result ≡ asked c.args.table.now (lengths l) =
-    of-least _ _ _ _ c.ask.ensures c.lesser-shortest.ensures c.lesser.ensures in
-    rejecting c.args.table.now (lengths l) (refused l) _ _ (sym c.in-Rejected.is ∙ told)
+    of-least _ _ _ _ c.ask.ensures c.min-shortest.ensures c.min.ensures in
+    rejecting c.args.table.now (lengths l) (refused l) _ _ (sym c.in-Err.is ∙ told)

@@ -1,5 +1,5 @@
 -- `sss::find` meets its contract: the steps of a search, in order.
-use Rattle.std.proofs.Common.{arith, ◌≡◌, ap, ◌∙◌, List, ℕ}
+use Rattle.std.proofs.Common.{arith, rules, ◌≡◌, ap, ◌∙◌, List, ℕ}
 use Rattle.prelude.proofs.{length-replicate}
 use Rattle.table.specs.Frame.{max_nodes, frames}
 use Rattle.table_positions.specs.Buffer.{written}
@@ -7,15 +7,15 @@ use Rattle.sss_states.specs.declared.State.{State}
 use Rattle.sss_states.specs.Entry.{blank}
 use Rattle.sss_loop.specs.Engine.Driven.{zeros}
 use Rattle.sss.proofs.Starting.{zeros-sound, prepared-at}
-use Rattle.sss.proofs.Own.{own-asks, own-gives}
+use Rattle.sss.proofs.Own.{own-gives}
 use Rattle.sss.proofs.find.Goals as goal
 
 -- the marks after the clearing
 cleared : (t b b' : List ℕ) (n : ℕ) → b' ≡ written (λ _. 0) n b → n ≡ frames t → b' ≡ written (λ _. 0) (frames t) b
 cleared t b b' n e h = e ∙ ap (λ m. written (λ _. 0) m b) h
 
-pub drive_own-requires : goal.drive_own-requires
-drive_own-requires c =
+pub drive_own-ended-requires : goal.drive_own-ended-requires
+drive_own-ended-requires c =
     let wf = c.requires.well_formed.0 in
     let t = c.args.table.now in
     let e = cleared t c.args.evaluated.now _ _ c.clear.ensures c.frame_count-nodes.ensures in
@@ -24,28 +24,12 @@ drive_own-requires c =
     (omega (arith, wf.at_most, length-replicate {A = State} max_nodes blank)) c.requires.table_in_bounds.0
     c.requires.table_in_bounds.1 (zeros-sound t wf) _ c.requires.well_formed.1)
 
-pub answer-requires : goal.answer-requires
-answer-requires c =
-    let e =
-    cleared c.args.table.now c.args.evaluated.now _ _ c.clear.ensures c.frame_count-nodes.ensures in
-    (own-asks c.args.allowance _ c.requires.well_formed.0 _ _ _ _ e c.begun-run.ensures c.drive_own.ensures
-    c.requires.table_in_bounds.0).merit
-
-pub returns-clause-value : goal.returns-clause-value
-returns-clause-value c =
-    let e =
-    cleared c.args.table.now c.args.evaluated.now _ _ c.clear.ensures c.frame_count-nodes.ensures in
-    c.answer.ensures
-    ∙ (own-gives c.args.allowance _ c.requires.well_formed.0 _ _ _ _ e c.begun-run.ensures c.drive_own.ensures).0
-
-pub returns-clause-evaluated_after : goal.returns-clause-evaluated_after
-returns-clause-evaluated_after c =
-    let e =
-    cleared c.args.table.now c.args.evaluated.now _ _ c.clear.ensures c.frame_count-nodes.ensures in
-    (own-gives c.args.allowance _ c.requires.well_formed.0 _ _ _ _ e c.begun-run.ensures c.drive_own.ensures).1.0
-
-pub returns-clause-order_after : goal.returns-clause-order_after
-returns-clause-order_after c =
-    let e =
-    cleared c.args.table.now c.args.evaluated.now _ _ c.clear.ensures c.frame_count-nodes.ensures in
-    (own-gives c.args.allowance _ c.requires.well_formed.0 _ _ _ _ e c.begun-run.ensures c.drive_own.ensures).1.1
+pub returns : goal.returns
+returns c =
+    let e = cleared c.args.table.now c.args.evaluated.now _ _ c.clear.ensures c.frame_count-nodes.ensures in
+    let g = own-gives c.args.allowance _ c.requires.well_formed.0 _ _ _ _ e c.begun-run.ensures
+    c.drive_own-ended.ensures.driven in
+    -- what was lent ends as the run leaves it
+    let marks = g.1.0 in
+    let order = g.1.1 in
+    record { value = c.answer.ensures ∙ g.0; evaluated_after = search rules; order_after = search rules }

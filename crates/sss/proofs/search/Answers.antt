@@ -1,12 +1,12 @@
 -- `sss::search` meets its contract: what start, the loop and finish leave is the outcome.
-use Rattle.std.proofs.Common.{refl, length}
+use Rattle.std.proofs.Common.{refl, length, rules}
 use Rattle.sss.specs.declared.Sizes.{Sizes}
 use Rattle.sss.proofs.Starting.{start-prepared}
 use Rattle.sss.proofs.Whole.{finish-asks, whole}
 use Rattle.sss.proofs.search.Goals as goal
 
-pub drive-ended-requires : goal.drive-ended-requires
-drive-ended-requires c =
+pub drive-run-requires : goal.drive-run-requires
+drive-run-requires c =
     let n : Sizes = record {
       entries = length c.args.list.now;
       flags = length c.args.certificate.now;
@@ -19,9 +19,12 @@ drive-ended-requires c =
 pub finish-requires : goal.finish-requires
 finish-requires c =
     finish-asks c.args.allowance c.args.table.now c.args.list.now c.args.evaluated.now c.args.certificate.now
-    c.args.order.now _ refl c.start-checked.ensures c.begun.ensures c.drive-ended.ensures
+    c.args.order.now _ refl c.start-checked.ensures c.begun.ensures c.drive-run.ensures.driven
 
 pub returns : goal.returns
 returns c =
-    whole c.args.allowance c.args.table.now c.args.list.now c.args.evaluated.now c.args.certificate.now
-    c.args.order.now _ refl c.start-checked.ensures c.begun.ensures c.drive-ended.ensures c.finish.ensures
+    -- what was lent ends as the run leaves it
+    let w = whole c.args.allowance c.args.table.now c.args.list.now c.args.evaluated.now c.args.certificate.now
+    c.args.order.now _ refl c.start-checked.ensures c.begun.ensures c.drive-run.ensures.driven
+    c.finish.ensures.finished in
+    search rules

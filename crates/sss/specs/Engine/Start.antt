@@ -1,10 +1,8 @@
 -- What a search starts with: its questions, and the run, the positions and the marks that follow from the answers.
-use Rattle.std.specs.Prelude.{ℕ, ◌≡◌, List, [], ◌∷◌, length}
+use Rattle.std.specs.Prelude.{ℕ, ◌≡◌, List, [], ◌∷◌, length, Result, Ok, Err}
 use Rattle.std.proofs.Math.Option.{Option, none, some}
 use Rattle.gametree.specs.Trees.{greatest}
 use Rattle.table.specs.declared.Rejection.{Rejection}
-use Rattle.table.specs.declared.Checked.{Checked}
-use Rattle.table.specs.declared.Checked.TheVariants.{Nodes, Rejected}
 use Rattle.table.specs.Frame.{frames}
 use Rattle.table.specs.Rejection.{answer}
 use Rattle.table_positions.specs.Buffer.{written}
@@ -24,7 +22,7 @@ start_rejection t n b = search_rejection t (n.entries ∷ length b ∷ n.flags �
 
 -- nothing is counted yet, and a leaves may be evaluated
 abbrev pub no_counts : (a : ℕ) → Counts
-no_counts a = record { leaves = 0; replacements = 0; allowance = a; replaced = 0 }
+no_counts a = record { replacements = 0; allowance = a; replaced = 0 }
 
 -- a run at its start, with so many states: the root's, LIVE, with the greatest merit, or none
 abbrev pub beginning : (a : ℕ) → Stage → ℕ → Run
@@ -37,9 +35,9 @@ beginning a s n =
     }
 
 -- the run after the questions: one that was rejected is over before its first turn
-abbrev pub begun : (a : ℕ) → Checked → Run
-begun a (Nodes n) = beginning a Going 1
-begun a (Rejected r) = beginning a (Finished greatest) 0
+abbrev pub begun : (a : ℕ) → Result ℕ Rejection → Run
+begun a (Ok n) = beginning a Going 1
+begun a (Err r) = beginning a (Finished greatest) 0
 
 -- the positions F and the marks b after the questions
 abbrev pub positions_after : (t F : List ℕ) → Option Rejection → List ℕ
@@ -51,7 +49,7 @@ marks_after t b none = written (λ k. 0) (frames t) b
 marks_after t b (some r) = b
 
 -- what a start with the positions F and the marks b gives, and leaves in F' and b'
-pub record Started (t : List ℕ) (n : Sizes) (F b : List ℕ) (q : Checked) (F' b' : List ℕ) : Type 0 where
+pub record Started (t : List ℕ) (n : Sizes) (F b : List ℕ) (q : Result ℕ Rejection) (F' b' : List ℕ) : Type 0 where
   pub checked : q ≡ answer (frames t) (start_rejection t n b)
   pub positions : F' ≡ positions_after t F (start_rejection t n b)
   pub marks : b' ≡ marks_after t b (start_rejection t n b)

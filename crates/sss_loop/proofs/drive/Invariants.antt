@@ -1,17 +1,20 @@
 -- `sss_loop::drive`: what the run has reached, and the turns that are left at most.
 use Rattle.table.specs.Frame.{frames}
+use Rattle.certificate_bounds.specs.{progress_of, SameBuffers}
+use Rattle.sss_states.specs.{SameFront}
 use Rattle.sss_loop.proofs.Driving.{fuel, Along}
 use Rattle.sss_loop.proofs.drive.Given as goal
 
 abbrev pub invariant-loop-list : goal.invariant-loop-list
 invariant-loop-list l =
-    Along l.table l.positions l.fn.front l.fn.list l.fn.evaluated l.fn.order l.fn.run (record {
-      front = l.front;
+    Along l.fn.front.table.now l.fn.front.positions.now l.fn.front.entries.now l.fn.list (progress_of l.fn.evaluations)
+    l.fn.run (record {
+      front = l.front.entries.now;
       list = l.list;
-      marks = l.evaluated;
-      order = l.order;
+      progress = progress_of l.evaluations;
       run = l.run;
     })
+    × SameFront l.fn.front l.front × SameBuffers l.fn.evaluations l.evaluations
 
 abbrev pub decreases-loop-list : goal.decreases-loop-list
-decreases-loop-list l = fuel (frames l.table) l.run
+decreases-loop-list l = fuel (frames l.fn.front.table.now) l.run

@@ -8,7 +8,7 @@ use Rattle.table.specs.Frame.{frames}
 use Rattle.table.specs.Tree.{tree, valuation}
 use Rattle.table_positions.specs.Buffer.{written}
 use Rattle.certificate_bounds.specs.Marks.{ones}
-use Rattle.certificate_bounds.specs.Engine.Progress.{progress, evaluate_all}
+use Rattle.certificate_bounds.specs.Engine.Progress.{Progress, progress, evaluate_all}
 use Rattle.sss_states.specs.declared.State.{State}
 use Rattle.sss_states.specs.Entry.{blank}
 use Rattle.gametree.specs.Engine.Within.{End, Ran, finished, spent, sss_within}
@@ -56,17 +56,16 @@ Stands Going a t ls w i k v = GoesOn t ls w i k v
 Stands (Finished γ) a t ls w i k v = Over a t ls finished γ k v
 Stands (Spent γ) a t ls w i k v = Over a t ls spent γ k v
 
--- the invariant, for an allowance of a leaves, a table t, and at entry the states l, the marks b and the leaves o
-pub record Running (a : ℕ) (t : List ℕ) (l : List State) (b o : List ℕ) (c : Config) : Type 0 where
+-- the invariant, for an allowance of a leaves, a table t, and at entry the states l and the progress p
+pub record Running (a : ℕ) (t : List ℕ) (l : List State) (p : Progress) (c : Config) : Type 0 where
   pub evaluated : List ℕ
   pub entries : length c.list ≡ length l
   pub room : frames t ≤ length l
   pub kept : drop (frames t) c.list ≡ drop (frames t) l
-  pub mark_room : frames t ≤ length b
-  pub order_room : frames t ≤ length o
-  pub all : progress c.run.counts.leaves c.marks c.order
-      ≡ evaluate_all (progress 0 (written (λ k. 0) (frames t) b) o) evaluated
-  pub counted : c.run.counts.leaves ≡ ones c.marks (frames t)
+  pub mark_room : frames t ≤ length p.marks
+  pub order_room : frames t ≤ length p.order
+  pub all : c.progress ≡ evaluate_all (progress 0 (written (λ k. 0) (frames t) p.marks) p.order) evaluated
+  pub counted : c.progress.leaves ≡ ones c.progress.marks (frames t)
   pub allowance : c.run.counts.allowance ≡ a
   pub allowed : length evaluated ≤ a
   pub sound : Sound t c.front

@@ -4,7 +4,7 @@ use Rattle.gametree.specs.Trees.{greatest}
 use Rattle.table.specs.Frame.{max_nodes, frames, child_count}
 use Rattle.table.specs.Formed.{WellFormed}
 use Rattle.certificate_bounds.specs.Marks.{marked}
-use Rattle.certificate_bounds.specs.Engine.Progress.{Progress, progress, Listable}
+use Rattle.certificate_bounds.specs.Engine.Progress.{Progress, Listable}
 use Rattle.sss_states.specs.declared.Status.{Status}
 use Rattle.sss_states.specs.declared.Status.TheVariants.{Live, Solved}
 use Rattle.sss_states.specs.declared.State.{State}
@@ -29,11 +29,11 @@ pub record Replaceable (t F : List ℕ) (p : Progress) (e : State) (γ : ℕ) : 
   pub listable : Listable t p
 
 -- what a turn asks
-pub record Takeable (t F w b o : List ℕ) (r : Run) (e : State) : Type 0 where
+pub record Takeable (t F w : List ℕ) (p : Progress) (r : Run) (e : State) : Type 0 where
   pub fits : Fits t F w
-  pub marks : frames t ≤ length b
+  pub marks : frames t ≤ length p.marks
   pub node : e.node < frames t
-  pub unmarked : LeafUnmarked t b e.status e.node
+  pub unmarked : LeafUnmarked t p.marks e.status e.node
   pub merit : IsMerit e.merit
   pub at_most : r.counts.replacements < 2 * max_nodes
-  pub listable : Listable t (progress r.counts.leaves b o)
+  pub listable : Listable t p

@@ -2,7 +2,7 @@
 -- allowance does not cover, ends the run.
 use Rattle.std.specs.Prelude.{ℕ, zero, suc, ◌+◌, ◌-◌, Bool, true, false, cond, List, [], ◌∷◌, eqb, ltb, get_or}
 use Rattle.table.specs.Frame.{frames, child_count}
-use Rattle.certificate_bounds.specs.Engine.Progress.{progress, evaluate_all}
+use Rattle.certificate_bounds.specs.Engine.Progress.{Progress, evaluate_all}
 use Rattle.table.specs.Value.{score_of}
 use Rattle.sss_states.specs.declared.Status.{Status}
 use Rattle.sss_states.specs.declared.Status.TheVariants.{Live, Solved}
@@ -37,9 +37,9 @@ evaluated_at (suc n) s i = []
 abbrev pub new_leaves : List ℕ → State → List ℕ
 new_leaves t e = evaluated_at (child_count t e.node) e.status e.node
 
--- the counts after a replacement of node i's state, with which n leaves are evaluated
-abbrev pub recounted : (n i : ℕ) → Counts → Counts
-recounted n i k = record { leaves = n; replacements = k.replacements + 1; allowance = k.allowance; replaced = i }
+-- the counts after a replacement of node i's state
+abbrev pub recounted : (i : ℕ) → Counts → Counts
+recounted i k = record { replacements = k.replacements + 1; allowance = k.allowance; replaced = i }
 
 -- is a state of a node with n children, with this status, that of a LIVE leaf?
 abbrev pub is_live_leaf : ℕ → Status → Bool
@@ -47,9 +47,9 @@ is_live_leaf zero Live = true
 is_live_leaf zero Solved = false
 is_live_leaf (suc n) s = false
 
--- would a replacement of the state e evaluate a leaf that the allowance does not cover?
-abbrev pub is_uncovered : List ℕ → State → Counts → Bool
-is_uncovered t e k = cond (ltb k.leaves k.allowance) false (is_live_leaf (child_count t e.node) e.status)
+-- would a replacement of the state e, after n evaluated leaves, evaluate one that the allowance does not cover?
+abbrev pub is_uncovered : List ℕ → State → ℕ → Counts → Bool
+is_uncovered t e n k = cond (ltb n k.allowance) false (is_live_leaf (child_count t e.node) e.status)
 
 -- the front after a change and the fall from its node, and the node to take next
 abbrev pub settled_front : List ℕ → ℕ → Change → List ℕ → Refreshed
@@ -67,53 +67,48 @@ replaced_run t front c γ k =
 abbrev pub ended_run : List ℕ → Stage → Counts → Run
 ended_run t s k = record { stage = s; best = 0; counts = k; update = blanks (frames t) }
 
--- the front, the marks, the list of leaves and the run after a state is taken
+-- the front, the progress of the evaluation and the run after a state is taken
 pub record TurnTaken : Type 0 where
   pub front : List ℕ
-  pub marks : List ℕ
-  pub order : List ℕ
+  pub progress : Progress
   pub run : Run
 
 -- the run ends
-abbrev pub stopped : (t front marks order : List ℕ) → Run → Stage → TurnTaken
-stopped t front marks order r s = record { front = front; marks = marks; order = order; run = ended_run t s r.counts }
+abbrev pub stopped : (t front : List ℕ) → Progress → Run → Stage → TurnTaken
+stopped t front p r s = record { front = front; progress = p; run = ended_run t s r.counts }
 
 -- the state e is replaced
-abbrev pub stepped : (t front marks order : List ℕ) → Run → State → TurnTaken
-stepped t front marks order r e =
+abbrev pub stepped : (t front : List ℕ) → Progress → Run → State → TurnTaken
+stepped t front p r e =
     let γ = score_of e.merit in
     let c = of_state t e.node γ e.status in
-    let p = evaluate_all (progress r.counts.leaves marks order) (new_leaves t e) in
     record {
       front = (settled_front t γ c front).front;
-      marks = p.marks;
-      order = p.order;
-      run = replaced_run t front c γ (recounted p.leaves r.best r.counts);
+      progress = evaluate_all p (new_leaves t e);
+      run = replaced_run t front c γ (recounted r.best r.counts);
     }
 
 -- the state e is taken
-abbrev pub taken : (t front marks order : List ℕ) → Run → State → TurnTaken
-taken t front marks order r e =
-    cond (is_solved_root e.status e.node) (stopped t front marks order r (Finished (score_of e.merit)))
-    (cond (is_uncovered t e r.counts) (stopped t front marks order r (Spent (score_of e.merit)))
-    (stepped t front marks order r e))
+abbrev pub taken : (t front : List ℕ) → Progress → Run → State → TurnTaken
+taken t front p r e =
+    cond (is_solved_root e.status e.node) (stopped t front p r (Finished (score_of e.merit)))
+    (cond (is_uncovered t e p.leaves r.counts) (stopped t front p r (Spent (score_of e.merit)))
+    (stepped t front p r e))
 
--- the front, the list of states, the marks, the list of leaves and the run between two turns
+-- the front, the list of states, the progress of the evaluation and the run between two turns
 pub record Config : Type 0 where
   pub front : List ℕ
   pub list : List State
-  pub marks : List ℕ
-  pub order : List ℕ
+  pub progress : Progress
   pub run : Run
 
 -- what is left after the best state is taken
 abbrev pub best : List ℕ → Config → TurnTaken
-best t c = taken t c.front c.marks c.order c.run (get_or c.list c.run.best blank)
+best t c = taken t c.front c.progress c.run (get_or c.list c.run.best blank)
 
 -- the list of states, too, once the update is made
 abbrev pub updated_by : List State → TurnTaken → Config
-updated_by ls x =
-    record { front = x.front; list = updated x.run.update ls; marks = x.marks; order = x.order; run = x.run }
+updated_by ls x = record { front = x.front; list = updated x.run.update ls; progress = x.progress; run = x.run }
 
 -- one turn: the best state is taken and replaced
 abbrev pub turn : List ℕ → Config → Config

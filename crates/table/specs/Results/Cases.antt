@@ -1,7 +1,6 @@
 -- Small tables, with what the check answers and what the children of a node are.
-use Rattle.std.specs.Prelude.{ℕ, zero, suc, ◌+◌, List, [], ◌∷◌, ◌++◌}
-use Rattle.table.specs.declared.Checked.{Checked}
-use Rattle.table.specs.declared.Checked.TheVariants.{Nodes, Rejected}
+use Rattle.table.specs.declared.Rejection.{Rejection}
+use Rattle.std.specs.Prelude.{ℕ, zero, suc, ◌+◌, List, [], ◌∷◌, ◌++◌, Result, Ok, Err}
 
 -- a leaf of a value's two bytes
 abbrev pub leaf_frame : ℕ → ℕ → List ℕ
@@ -45,13 +44,13 @@ single = inner_frame 1 1 ++ leaf_frame 0 9
 -- a table and its answer
 pub record Case : Type 0 where
   pub table : List ℕ
-  pub answer : Checked
+  pub answer : Result ℕ Rejection
 
 abbrev pub accepts : List ℕ → ℕ → Case
-accepts t n = record { table = t; answer = Nodes n }
+accepts t n = record { table = t; answer = Ok n }
 
 abbrev pub rejects : List ℕ → ℕ → ℕ → Case
-rejects t q p = record { table = t; answer = Rejected (record { number = q; place = p }) }
+rejects t q p = record { table = t; answer = Err (record { number = q; place = p }) }
 
 -- what is accepted
 abbrev pub accepted : List Case

@@ -1,4 +1,5 @@
 -- `check` meets its contract: one lemma for each of its four returns.
+use Rattle.prelude.proofs.{Err}
 use Rattle.prelude.proofs.{ℕ, ◌/◌, ◌%◌, ◌≤◌, ◌<◌, arith, ◌≡◌, sym, ap, ◌∙◌, List, length, lt-ltb, le-ltb, le-leb}
 use Rattle.prelude.proofs.{lt-leb, ne_eqb}
 use Rattle.table.specs.{frame_size, frames, max_table, answer, frames_rejection, rejection, checked}
@@ -30,14 +31,14 @@ module _ (t : List ℕ) where
       whole n = ap (answer (frames t)) (sym (rejection-frames t (omega arith) l n))
 
 pub returns-then-length-eq0 : goal.returns-then-length-eq0
-returns-then-length-eq0 c = c.rejected.ensures ∙ empty _ c.if-length-eq0.true
+returns-then-length-eq0 c = ap Err c.at.ensures ∙ empty _ c.if-length-eq0.true
 
 pub returns-then-length-gt-MAX_TABLE : goal.returns-then-length-gt-MAX_TABLE
-returns-then-length-gt-MAX_TABLE c = c.rejected-then-length-gt-MAX_TABLE.ensures
+returns-then-length-gt-MAX_TABLE c = ap Err c.at-then-length-gt-MAX_TABLE.ensures
     ∙ too_long _ c.if-length-eq0.false c.if-length-gt-MAX_TABLE.true
 
 pub returns-then-length-ne0 : goal.returns-then-length-ne0
-returns-then-length-ne0 c = c.rejected-then-length-ne0.ensures
+returns-then-length-ne0 c = ap Err c.at-then-length-ne0.ensures
     ∙ left_over _ c.if-length-eq0.false c.if-length-gt-MAX_TABLE.false c.if-length-ne0.true
 
 pub returns : goal.returns

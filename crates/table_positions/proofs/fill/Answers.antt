@@ -1,76 +1,35 @@
 -- `table_positions::fill` meets its contract: each turn stores the entries of one node's children.
-use Rattle.prelude.proofs.{◌<◌, arith, ◌∙◌}
-use Rattle.table.specs.{frames}
+use Rattle.prelude.proofs.{◌≡◌, arith, ap, ◌∙◌}
+use Rattle.table.specs.{frames, next}
 use Rattle.table_positions.specs.{position_entry}
-use Rattle.table_positions.proofs.TopDown.{visit-goes, visit-within, filled-root, filled-all}
-use Rattle.table_positions.proofs.Positions.{root-entry, filling-few, filling_step}
+use Rattle.table_positions.proofs.TopDown.{visit-within, filled-root, filled-all}
+use Rattle.table_positions.proofs.Positions.{root-entry, filling_step}
 use Rattle.table_positions.proofs.fill.Goals as goal
 
-pub bounds-positions-0 : goal.bounds-positions-0
-bounds-positions-0 c = omega (arith, c.requires.well_formed.non_empty)
-
-pub loop-next-init : goal.loop-next-init
-loop-next-init c = filled-root c.args.table.now c.requires.well_formed (position_entry c.args.table.now)
+pub loop-node-init : goal.loop-node-init
+loop-node-init c = filled-root c.args.table.now c.requires.well_formed (position_entry c.args.table.now)
     c.args.positions.now _ (c.packed.ensures ∙ root-entry c.args.table.now)
     c.requires.table_in_bounds
 
-pub child_count-requires : goal.child_count-requires
-child_count-requires c =
-    -- a turn has a node to visit
-    let inside : c.loop-next.node < frames c.args.table.now =
-    visit-goes _ c.loop-next.invariant.visit c.requires.well_formed (omega arith) in
-    inside
+pub fill_children-requires-clause-from_le_to : goal.fill_children-requires-clause-from_le_to
+fill_children-requires-clause-from_le_to c =
+    let v = c.loop-node.invariant.visit in
+    let w = visit-within _ v (omega arith) _ c.child_count.ensures.0 c.requires.well_formed in
+    (omega arith, w, omega (arith, v.room))
 
-pub overflow_add-end : goal.overflow_add-end
-overflow_add-end c =
-    -- a turn has a node to visit
-    let inside : c.loop-next.node < frames c.args.table.now =
-    visit-goes _ c.loop-next.invariant.visit c.requires.well_formed (omega arith) in
-    let w = visit-within _ c.loop-next.invariant.visit inside _ c.child_count.ensures.0 c.requires.well_formed in
-    omega (arith, c.requires.well_formed.at_most)
-
-pub position_at-position-requires : goal.position_at-position-requires
-position_at-position-requires c =
-    -- a turn has a node to visit
-    let inside : c.loop-next.node < frames c.args.table.now =
-    visit-goes _ c.loop-next.invariant.visit c.requires.well_formed (omega arith) in
-    omega (arith, inside, c.loop-next.invariant.visit.room)
-
-pub fill_children-requires : goal.fill_children-requires
-fill_children-requires c =
-    -- a turn has a node to visit
-    let inside : c.loop-next.node < frames c.args.table.now =
-    visit-goes _ c.loop-next.invariant.visit c.requires.well_formed (omega arith) in
-    let w = visit-within _ c.loop-next.invariant.visit inside _ c.child_count.ensures.0 c.requires.well_formed in
-    record {
-      from_le_to = (omega arith, w, omega (arith, c.loop-next.invariant.visit.room));
-      parent_le_max_nodes = (
-        omega (arith, inside, c.requires.well_formed.at_most),
-        filling-few _ c.requires.well_formed c.loop-next.invariant inside _ c.position_at-position.ensures,
-      );
-    }
-
-pub overflow_add-node : goal.overflow_add-node
-overflow_add-node c =
-    -- a turn has a node to visit
-    let inside : c.loop-next.node < frames c.args.table.now =
-    visit-goes _ c.loop-next.invariant.visit c.requires.well_formed (omega arith) in
-    omega (arith, inside, c.requires.well_formed.at_most)
-
-pub loop-next-smaller : goal.loop-next-smaller
-loop-next-smaller c =
-    -- a turn has a node to visit
-    let inside : c.loop-next.node < frames c.args.table.now =
-    visit-goes _ c.loop-next.invariant.visit c.requires.well_formed (omega arith) in
-    omega (arith, inside)
-
-pub loop-next-preserved : goal.loop-next-preserved
-loop-next-preserved c =
-    -- a turn has a node to visit
-    let inside : c.loop-next.node < frames c.args.table.now =
-    visit-goes _ c.loop-next.invariant.visit c.requires.well_formed (omega arith) in
-    filling_step _ c.requires.well_formed c.loop-next.invariant inside _ c.position_at-position.ensures _
+pub loop-node-preserved : goal.loop-node-preserved
+loop-node-preserved c =
+    filling_step _ c.requires.well_formed c.loop-node.invariant (omega arith) _ c.position_at-position.ensures _
     c.child_count.ensures.0 _ c.fill_children.ensures
 
-pub returns : goal.returns
-returns c = filled-all _ c.requires.well_formed _ c.args.positions.now _ c.loop-next.invariant (omega arith)
+pub returns-after-loop-node : goal.returns-after-loop-node
+returns-after-loop-node c =
+    let t = c.args.table.now in
+    let v = c.loop-node.invariant.visit in
+    let e : c.loop-node.node ≡ frames t = omega (arith, v.inside) in
+    filled-all _ c.requires.well_formed _ c.args.positions.now _ c.loop-node.invariant
+    (omega (arith, v.here, ap (next t) e, c.requires.well_formed.total))
+
+pub returns-then-next-n : goal.returns-then-next-n
+returns-then-next-n c =
+    filled-all _ c.requires.well_formed _ c.args.positions.now _ c.loop-node.invariant (omega arith)

@@ -4,8 +4,8 @@ use Rattle.table.specs.{frames}
 use Rattle.variation.proofs.Following.{Following}
 use Rattle.variation.proofs.follow.Given as goal
 
-abbrev pub invariant-loop-node : goal.invariant-loop-node
-invariant-loop-node l = Following l.table l.certificate l.initial.line l.node l.nodes l.line
+abbrev pub invariant-loop-child : goal.invariant-loop-child
+invariant-loop-child l = Following l.table l.certificate l.initial.line l.node l.length l.line
 
-abbrev pub decreases-loop-node : goal.decreases-loop-node
-decreases-loop-node l = frames l.table - l.node
+abbrev pub decreases-loop-child : goal.decreases-loop-child
+decreases-loop-child l = frames l.table - l.node

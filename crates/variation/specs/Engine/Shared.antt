@@ -12,14 +12,6 @@ pub record Certified (t flags : List ℕ) : Type 0 where
   pub enough : frames t ≤ length flags
   pub rules : (p : Side) (i : ℕ) → i < frames t → rule_holds p t flags i ≡ true
 
--- one of node i's children, k, is in both trees
-pub record SharedChild (t flags : List ℕ) (i : ℕ) : Type 0 where
-  pub inside : i < frames t
-  pub k : ℕ
-  pub child : ChildOf t i k
-  pub both : get_or flags k 0 ≡ in_both
-  pub flagged : k < length flags
-
 -- k is the first child of node i that is in both trees
 pub record FirstShared (t flags : List ℕ) (i k : ℕ) : Type 0 where
   pub child : ChildOf t i k

@@ -3,8 +3,8 @@ use Rattle.worst_fill.proofs.Whole.{checked-fillable, fill_gives}
 use Rattle.worst_fill.proofs.fill.Goals as goal
 
 pub fill_node-requires : goal.fill_node-requires
-fill_node-requires c = checked-fillable _ _ c.in-Nodes.ensures
+fill_node-requires c = checked-fillable _ _ c.in_ok-check.ensures
 
-pub returns-in-Nodes : goal.returns-in-Nodes
-returns-in-Nodes c =
-    fill_gives _ _ c.in-Nodes.ensures _ _ c.fill_node.ensures.value c.fill_node.ensures.table_after
+pub returns : goal.returns
+returns c =
+    fill_gives _ _ c.in_ok-check.ensures _ _ c.fill_node.ensures.value c.fill_node.ensures.table_after

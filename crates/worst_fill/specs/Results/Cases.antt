@@ -1,9 +1,8 @@
 -- Small tables, with what the call answers, what the table holds then, and how many leaves alpha-beta reaches in it.
-use Rattle.std.specs.Prelude.{ℕ, List, [], ◌∷◌, ◌++◌}
+use Rattle.table.specs.declared.Rejection.{Rejection}
+use Rattle.std.specs.Prelude.{ℕ, List, [], ◌∷◌, ◌++◌, Result, Ok, Err}
 use Rattle.table.specs.Results.Cases.{leaf_frame, inner_frame, again_frame, small, capture, lone, single}
-use Rattle.worst_fill.specs.declared.Filled.TheVariants.{Leaves, Rejected}
 use Rattle.table.specs.Rejection.{Outcome, ◌leaving◌}
-use Rattle.worst_fill.specs.declared.Filled.{Filled}
 
 -- Max(Min(Min(a, b))), where Min moves twice
 abbrev pub min_twice : ℕ → ℕ → List ℕ
@@ -22,10 +21,10 @@ larger_block a b c =
 -- a table, and what the call makes of it
 pub record Case : Type 0 where
   pub table : List ℕ
-  pub outcome : Outcome Filled (List ℕ)
+  pub outcome : Outcome (Result ℕ Rejection) (List ℕ)
 
 abbrev pub fills : (table : List ℕ) (leaves : ℕ) (filled : List ℕ) → Case
-fills t n u = record { table = t; outcome = Leaves n leaving u }
+fills t n u = record { table = t; outcome = Ok n leaving u }
 
 abbrev pub given : List Case
 given =
@@ -45,7 +44,7 @@ given =
 -- a rejection: number and place, with the table as it was
 abbrev pub refuses : (table : List ℕ) (number place : ℕ) → Case
 refuses t q p =
-    record { table = t; outcome = Rejected (record { number = q; place = p }) leaving t }
+    record { table = t; outcome = Err (record { number = q; place = p }) leaving t }
 
 abbrev pub refused : List Case
 refused =

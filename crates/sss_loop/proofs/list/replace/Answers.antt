@@ -1,17 +1,17 @@
 -- `sss_loop::list::replace` meets its contract: each turn replaces one entry more.
-use Rattle.std.proofs.Common.{◌+◌, sym, subst, slice_set}
-use Rattle.sss_loop.proofs.Updates.{Replacing, replacing-start, replacing-on, replacing-end}
+use Rattle.prelude.proofs.{◌+◌, ◌-◌, ◌≡◌, arith, refl, ap, ◌∙◌}
+use Rattle.table_positions.proofs.Runs.{run_step, run_ends}
+use Rattle.sss_turns.specs.{entry_in}
+use Rattle.sss_states.specs.{stored}
 use Rattle.sss_loop.proofs.list.replace.Goals as goal
 
-pub loop-at-init : goal.loop-at-init
-loop-at-init c = replacing-start c.args.update c.args.list.now
-
-pub loop-at-preserved : goal.loop-at-preserved
-loop-at-preserved c =
-    subst (λ x. Replacing c.args.update c.args.list.now (slice_set c.loop-at.list c.loop-at.at x) (c.loop-at.at + 1))
-    (sym c.entry_in.ensures)
-    (replacing-on c.args.update c.args.list.now c.loop-at.list c.loop-at.at c.loop-at.invariant c.loop-at-test.true)
+pub loop-node-preserved : goal.loop-node-preserved
+loop-node-preserved c =
+    run_step _ _ _ _ _ _ _ _ c.loop-node-test.true c.entry_in.ensures refl c.loop-node.invariant
 
 pub returns : goal.returns
 returns c =
-    replacing-end c.args.update c.args.list.now c.loop-at.list c.loop-at.at c.loop-at.invariant c.loop-at-test.false
+    let u = c.args.update in
+    let n : u.first + u.count - u.first ≡ u.count = omega arith in
+    run_ends _ _ _ _ _ _ c.loop-node-test.false c.loop-node.invariant
+    ∙ ap (λ k. stored (entry_in u.content) u.first k c.args.list.now) n

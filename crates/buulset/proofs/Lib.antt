@@ -1,2 +1,0 @@
--- Why the exported calls give what they do.
-mod Handing

@@ -1,9 +1,0 @@
--- Each case starts behind the one before it. The measure is what is left of the input.
-use Rattle.prelude.proofs.{◌≤◌, ◌-◌, length}
-use Rattle.cases.proofs.print_cases.Given as goal
-
-abbrev pub invariant-loop-at : goal.invariant-loop-at
-invariant-loop-at g l = l.at ≤ length l.input
-
-abbrev pub decreases-loop-at : goal.decreases-loop-at
-decreases-loop-at g l = length l.input - l.at

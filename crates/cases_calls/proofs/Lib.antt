@@ -1,2 +1,0 @@
--- Proofs about the calls of the cases.
-pub mod Arrays

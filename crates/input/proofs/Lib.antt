@@ -1,2 +1,0 @@
--- Why the reading meets its contracts.
-pub mod Reading
