@@ -3,6 +3,7 @@
 
     plant.py bare FILE..                     takes the contracts out of the files: their MIR is the same without
     plant.py FILE FUNCTION NAME TEXT         puts a function NAME behind FUNCTION: the same, but that it begins with TEXT
+    plant.py FILE FUNCTION NAME TEXT OLD     the same, but that TEXT stands in place of OLD, which FUNCTION has once
 """
 import re
 import sys
@@ -40,13 +41,18 @@ def bare(text):
         text = text[:clause.start()] + text[end:].lstrip("\n").removeprefix("\n")
 
 
-def planted(text, function, name, words):
+def planted(text, function, name, words, old=None):
     found = re.search(r"^( *)(?:pub )?fn %s\b[^{;]*\{\n.*?^\1\}\n" % function, text, re.M | re.S)
     if not found:
         return None
     copy = re.sub(r"fn %s\b" % function, "fn " + name, found.group(), count=1)
-    at = copy.index("{\n") + 2
-    copy = copy[:at] + found.group(1) + "    " + words + "\n" + copy[at:]
+    if old is None:
+        at = copy.index("{\n") + 2
+        copy = copy[:at] + found.group(1) + "    " + words + "\n" + copy[at:]
+    elif copy.count(old) == 1:
+        copy = copy.replace(old, words)
+    else:
+        return None
     return text[:found.end()] + "\n" + copy + text[found.end():]
 
 
@@ -54,10 +60,10 @@ def main():
     if sys.argv[1:2] == ["bare"]:
         for path in sys.argv[2:]:
             write(path, bare(read(path)))
-    elif len(sys.argv) == 5:
+    elif len(sys.argv) in (5, 6):
         text = planted(read(sys.argv[1]), *sys.argv[2:])
         if text is None:
-            sys.exit("plant.py: %s has no function %s" % tuple(sys.argv[1:3]))
+            sys.exit("plant.py: %s has no function %s, or not this text once in it" % tuple(sys.argv[1:3]))
         write(sys.argv[1], text)
     else:
         sys.exit(__doc__.strip())

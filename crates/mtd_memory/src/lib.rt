@@ -208,9 +208,9 @@ pub fn first_not_below(highs: &[u32], nodes: Range<usize>, test: u32) -> Option<
 
 // What a node keeps: its high, and its entry of `not_below`.
 #[derive(Clone, Copy)]
-struct Kept {
-    high: u32,
-    entry: u16,
+pub struct Kept {
+    pub high: u32,
+    pub entry: u16,
 }
 
 // What a Min node keeps: below, the high of the child found below, and to skip the children before it.

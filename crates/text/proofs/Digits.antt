@@ -35,17 +35,17 @@ decimal-more n h k =
 pub ruleset digits = (decimal-one, decimal-more)
 
 -- no number takes more than 20 digits
-within-few : (f n : ℕ) → length (decimal_within f n) ≤ f
+pub decimal-few : (f n : ℕ) → length (decimal_within f n) ≤ f
 unfolding decimal_within
-within-few zero n = omega arith
-within-few (suc f) n =
+decimal-few zero n = omega arith
+decimal-few (suc f) n =
     cond_cases (λ d. length d ≤ suc f) (ltb n 10) ((48 + n) ∷ []) (decimal_within f (n / 10) ++ ((48 + n % 10) ∷ []))
-    (λ _. omega arith) (λ _. simp length-append (omega (arith, within-few f (n / 10))))
+    (λ _. omega arith) (λ _. simp length-append (omega (arith, decimal-few f (n / 10))))
 
-pub decimal-few : (n : ℕ) → length (decimal n) ≤ 20
-decimal-few n = within-few 20 n
+pub decimal-short : (n : ℕ) → length (decimal n) ≤ 20
+decimal-short n = decimal-few 20 n
 
 -- and a sign
 pub signed_decimal-few : (v : ℤ) → length (signed_decimal v) ≤ 21
-signed_decimal-few (pos n) = omega (arith, decimal-few n)
-signed_decimal-few (negsuc n) = omega (arith, decimal-few (suc n))
+signed_decimal-few (pos n) = omega (arith, decimal-short n)
+signed_decimal-few (negsuc n) = omega (arith, decimal-short (suc n))

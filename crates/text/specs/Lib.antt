@@ -1,4 +1,4 @@
 -- Definitions of text as bytes.
 pub mod Text
-unfoldable pub use Text.{decimal_within, text_of}
-pub use Text.{decimal, signed_decimal, refused_line, pushed_byte, pushed, HasRoom, text_size}
+unfoldable pub use Text.{decimal_within, text_of, laid}
+pub use Text.{decimal, signed_decimal, refused_line, TextRoom, Put, pushed_byte, pushed, HasRoom, text_size}

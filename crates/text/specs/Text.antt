@@ -1,6 +1,6 @@
 -- Text as bytes: numbers in base ten, and the line of a rejection (SPEC 12.1).
-use Rattle.std.specs.Prelude.{ℕ, zero, suc, ◌+◌, ◌-◌, ◌/◌, ◌%◌, ◌≤◌, cond, List, [], ◌∷◌, ◌++◌}
-use Rattle.std.specs.Prelude.{ltb, ℤ, pos, negsuc, length, replicate, set}
+use Rattle.std.specs.Prelude.{ℕ, zero, suc, ◌+◌, ◌-◌, ◌/◌, ◌%◌, ◌≤◌, ◌≡◌, cond, List, [], ◌∷◌, ◌++◌}
+use Rattle.std.specs.Prelude.{ltb, ℤ, pos, negsuc, length, take, drop, replicate, set}
 use Rattle.std.specs.List.{fold}
 pub use Rattle.file_line.specs.Line.{line_feed}
 use Rattle.table.specs.declared.Rejection.{Rejection}
@@ -29,6 +29,19 @@ abbrev pub refused_line : Rejection → List ℕ
 refused_line r =
     114 ∷ 101 ∷ 102 ∷ 117 ∷ 115 ∷ 101 ∷ 100 ∷ space
     ∷ (decimal r.number ++ (space ∷ (decimal r.place ++ (line_feed ∷ []))))
+
+-- the bytes x laid into a buffer from a position on
+unfoldable pub laid : ℕ → List ℕ → List ℕ → List ℕ
+laid at x b = take at b ++ (x ++ drop (at + length x) b)
+
+-- there is room for the bytes x from a position on
+pub record TextRoom (at : ℕ) (x b : List ℕ) : Type 0 where
+  pub enough : at + length x ≤ length b
+
+-- the bytes x were laid into the buffer b from a position on: the position after them, and what the buffer holds then
+pub record Put (at : ℕ) (x b : List ℕ) (next : ℕ) (after : List ℕ) : Type 0 where
+  pub behind : next ≡ at + length x
+  pub text : after ≡ laid at x b
 
 -- how many bytes a text has: room for every report of a file, and for the line of every rejection
 abbrev pub text_size : ℕ

@@ -2,7 +2,8 @@
 #![tactic(auto)]
 
 ghost use Rattle.std.specs.Prelude.{◌≡◌, ◌∷◌, [], ◌≤◌, take, length};
-ghost use Rattle.text.specs.Text.{space, decimal, signed_decimal, refused_line, HasRoom, pushed, text_of};
+ghost use Rattle.text.specs.Text.{space, decimal, signed_decimal, refused_line, TextRoom, Put, HasRoom, pushed};
+ghost use Rattle.text.specs.Text.{text_of};
 
 pub use file_line::LINE_FEED;
 use table::Rejection;
@@ -28,16 +29,15 @@ pub struct Text {
 }
 
 // The line of a rejection.
-#[tactic(auto, using(crate::proofs::Pushing::pushing), unfolding(crate::specs::Text::text_of))]
 pub fn refused(rejection: Rejection) -> Text
     ensures { result ≡ text_of (refused_line rejection) }
 {
-    let mut text = Text::new();
-    text.push_bytes(b"refused");
-    text.push_count(rejection.number as usize);
-    text.push_count(rejection.place);
-    text.push(LINE_FEED);
-    text
+    let mut line = [0u8; TEXT_SIZE];
+    let length = put_refused(&mut line, rejection);
+    Text {
+        bytes: line,
+        length,
+    }
 }
 
 impl Text {
@@ -65,8 +65,7 @@ impl Text {
         requires { HasRoom self.old (byte ∷ []) }
         ensures { self.new ≡ pushed self.old (byte ∷ []) }
     {
-        self.bytes[self.length] = byte;
-        self.length += 1;
+        self.length = put_byte(&mut self.bytes, self.length, byte);
     }
 
     // The bytes of a word.
@@ -74,9 +73,7 @@ impl Text {
         requires { HasRoom self.old word.now }
         ensures { self.new ≡ pushed self.old word.now }
     {
-        let end = self.length + word.len();
-        self.bytes[self.length..end].copy_from_slice(word);
-        self.length = end;
+        self.length = put_bytes(&mut self.bytes, self.length, word);
     }
 
     // A blank and a number.
@@ -84,8 +81,7 @@ impl Text {
         requires { HasRoom self.old (space ∷ decimal n) }
         ensures { self.new ≡ pushed self.old (space ∷ decimal n) }
     {
-        self.push(BLANK);
-        self.push_number(n);
+        self.length = put_count(&mut self.bytes, self.length, n);
     }
 
     // A blank and a signed value.
@@ -93,22 +89,76 @@ impl Text {
         requires { HasRoom self.old (space ∷ signed_decimal value) }
         ensures { self.new ≡ pushed self.old (space ∷ signed_decimal value) }
     {
-        self.push(BLANK);
-        if value < 0 {
-            self.push(MINUS);
-        }
-        self.push_number(value.unsigned_abs() as usize);
+        self.length = put_value(&mut self.bytes, self.length, value);
     }
+}
 
-    // A number in base ten. What `write!` ensures holds where it is `Ok` alone, and nothing says that it is.
-    #[tactic(auto, using(crate::proofs::Digits::digits, crate::proofs::Pushing::pushing))]
-    fn push_number(&mut self, n: usize)
-        requires { HasRoom self.old (decimal n) }
-        ensures { self.new ≡ pushed self.old (decimal n) }
-    {
-        if n >= TEN {
-            self.push_number(n / TEN);
-        }
-        self.push(DIGIT_ZERO + (n % TEN) as u8);
+// A rejection's line at the beginning of the text; gives the position after it.
+pub fn put_refused(text: &mut [u8], rejection: Rejection) -> usize
+    requires { TextRoom 0 (refused_line rejection) text.old }
+    ensures { Put 0 (refused_line rejection) text.old result
+        text.new }
+{
+    let number = rejection.number as usize;
+    let refused = put_bytes(text, 0, b"refused");
+    let numbered = put_count(text, refused, number);
+    let placed = put_count(text, numbered, rejection.place);
+    put_byte(text, placed, LINE_FEED)
+}
+
+// A blank and a signed value; gives the position after them.
+pub fn put_value(text: &mut [u8], at: usize, value: i16) -> usize
+    requires { TextRoom at (space ∷ signed_decimal value) text.old }
+    ensures { Put at (space ∷ signed_decimal value) text.old result text.new }
+{
+    let next = put_byte(text, at, BLANK);
+    let magnitude = value.unsigned_abs() as usize;
+    if value < 0 {
+        let signed = put_byte(text, next, MINUS);
+        return put_number(text, signed, magnitude);
     }
+    put_number(text, next, magnitude)
+}
+
+// A blank and a number; gives the position after them.
+pub fn put_count(text: &mut [u8], at: usize, n: usize) -> usize
+    requires { TextRoom at (space ∷ decimal n) text.old }
+    ensures { Put at (space ∷ decimal n) text.old result text.new }
+{
+    let next = put_byte(text, at, BLANK);
+    put_number(text, next, n)
+}
+
+// The bytes of a word; gives the position after them. A loop, since `copy_from_slice` would call memmove here, and the
+// library needs memcpy and memset alone.
+pub fn put_bytes(text: &mut [u8], at: usize, word: &[u8]) -> usize
+    requires { TextRoom at word.now text.old }
+    ensures { Put at word.now text.old result text.new }
+{
+    for i in 0..word.len() {
+        text[at + i] = word[i];
+    }
+    at + word.len()
+}
+
+// A number in base ten; gives the position after it. What `write!` ensures holds where it is `Ok` alone, and nothing
+// says that it is.
+fn put_number(text: &mut [u8], at: usize, n: usize) -> usize
+    requires { TextRoom at (decimal n) text.old }
+    ensures { Put at (decimal n) text.old result text.new }
+{
+    if n < TEN {
+        return put_byte(text, at, DIGIT_ZERO + n as u8);
+    }
+    let next = put_number(text, at, n / TEN);
+    put_byte(text, next, DIGIT_ZERO + (n % TEN) as u8)
+}
+
+// One byte at a position; gives the position after it.
+pub fn put_byte(text: &mut [u8], at: usize, byte: u8) -> usize
+    requires { TextRoom at (byte ∷ []) text.old }
+    ensures { Put at (byte ∷ []) text.old result text.new }
+{
+    text[at] = byte;
+    at + 1
 }

@@ -3,6 +3,7 @@ pub mod Values
 pub mod Rows
 pub mod Loans
 pub mod Arrays
+pub mod ArraysByValue
 pub mod Calls
 pub mod Locals
 pub mod Leaving

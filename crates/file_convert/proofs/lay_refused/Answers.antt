@@ -9,10 +9,10 @@ as_bytes-line-requires c = length-within _ c.refused-text.ensures
 
 pub returns-then-buffer-length : goal.returns-then-buffer-length
 returns-then-buffer-length c =
-    let line = c.as_bytes-line.ensures ∙ text-bytes _ c.refused-text.ensures in
+    let line = c.as_bytes-line.ensures ∙ (text-bytes _ c.refused-text.ensures).1 in
     text-short _ _ _ (omega (arith, ap length line))
 
 pub returns : goal.returns
 returns c =
-    let line = c.as_bytes-line.ensures ∙ text-bytes _ c.refused-text.ensures in
+    let line = c.as_bytes-line.ensures ∙ (text-bytes _ c.refused-text.ensures).1 in
     rw (c.copy_from_slice.ensures.after, line) (text-laid _ _ _ (omega (arith, ap length line)))

@@ -28,7 +28,7 @@ loop-list-preserved c =
     let b = c.next-run.ensures.same_buffers in (
       turn-onward _ _ _ _ _ _ _ i.0 (sym c.goes_on.ensures ∙ c.loop-list-test.true) c.take-entry.ensures
           (ap (λ t. t.now) i.1.0) c.next-run.ensures.value c.replace-in-loop-list.ensures,
-      (f.0 ∙ i.1.0, f.1 ∙ i.1.1, f.2 ∙ i.1.2),
+      (f.0 ∙ i.1.0, f.1 ∙ i.1.1, f.2 ∙ i.1.2, f.3 ∙ i.1.3),
       (b.0 ∙ i.2.0, b.1 ∙ i.2.1),
     )
 

@@ -1,12 +1,12 @@
--- What is pushed into an empty text is the text of the line.
-use Rattle.prelude.proofs.{arith}
-use Rattle.text.specs.{refused_line}
-use Rattle.text.proofs.Pushing.{pushing}
-use Rattle.text.proofs.Sizes.{refused-few, pushed-text}
+-- What is laid into zeros is the text of the line.
+use Rattle.prelude.proofs.{ℕ, length-replicate, arith}
+use Rattle.text.specs.{text_size}
+use Rattle.text.proofs.Sizes.{refused-few, text-room, text-laid}
 use Rattle.text.proofs.refused.Goals as goal
 
+pub put_refused-length-requires : goal.put_refused-length-requires
+put_refused-length-requires c =
+    text-room _ (refused-few _) (omega (arith, length-replicate {A = ℕ} text_size 0))
+
 pub returns : goal.returns
-returns c =
-    let r = c.args.rejection in
-    let e = pushed-text (refused_line r) (refused-few r) in
-    grind (arith, pushing, e)
+returns c = text-laid _ c.put_refused-length.ensures

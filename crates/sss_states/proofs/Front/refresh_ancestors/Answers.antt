@@ -19,7 +19,7 @@ loop-self-preserved c =
           (c.refresh_parent-at.ensures.value ∙ ap (λ t. parent_of t.now c.loop-self.at) i.1.0)
           (c.refresh_parent-at.ensures.entries
           ∙ ap (λ t. renewed t.now c.loop-self.self.entries.now (parent_of t.now c.loop-self.at)) i.1.0),
-      (s.0 ∙ i.1.0, s.1 ∙ i.1.1, s.2 ∙ i.1.2),
+      (s.0 ∙ i.1.0, s.1 ∙ i.1.1, s.2 ∙ i.1.2, s.3 ∙ i.1.3),
     )
 
 pub returns-clause-value : goal.returns-clause-value

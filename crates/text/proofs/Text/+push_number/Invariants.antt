@@ -1,5 +1,0 @@
--- The number falls with each call.
-use Rattle.text.proofs.Text.+push_number.Given as goal
-
-abbrev pub decreases-push_number : goal.decreases-push_number
-decreases-push_number l = l.n
